@@ -1,0 +1,41 @@
+// The answers of document 01, as types. The definitions over them are in specs/.
+
+// Where a point lies, or why it was not placed: the kinds are kept apart.
+pub enum Answer {
+    Vertex(u32),
+    Edge(u32),
+    Zone(u32),
+    // The refusal's number and the item that it names, 0 where it names none.
+    Refused(u32, u32),
+}
+
+// What a judgement of the tables, or opening, says of a sheet.
+pub enum Verdict {
+    Passed,
+    // The refusal's number and the item that it names, 0 where it names none.
+    Refused(u32, u32),
+}
+
+// What the quick search gives back beside the trail.
+pub struct Found {
+    pub answer: Answer,
+    pub examined: u32,
+    pub probes: u32,
+}
+
+// The side of an edge on which a point lies.
+pub enum Side {
+    Below,
+    On,
+    Above,
+}
+
+// An edge with its ends: the numbers of its two vertices, and their coordinates, shifted.
+pub struct Segment {
+    pub west: u32,
+    pub east: u32,
+    pub xw: u32,
+    pub yw: u32,
+    pub xe: u32,
+    pub ye: u32,
+}

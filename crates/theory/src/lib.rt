@@ -1,0 +1,1 @@
+// Mathematics only: the laws are in proofs/, a file a subject.
