@@ -6,3 +6,14 @@ pub mod Dyadic
 pub mod Order
 pub mod Sheet
 pub mod Lines
+pub mod Neighbours
+pub mod Rules
+pub mod ZoneLine
+pub mod Refusals
+pub mod Accepted
+pub mod Reading
+pub mod Index
+pub mod Descent
+pub mod Calls
+pub mod Answers
+pub mod WorkedTable

@@ -1,0 +1,141 @@
+-- The descent: document 01, "Index and descent", second and third paragraph, and line 22 of the table of refusals. Points are shifted.
+use mathlib.Core.Bool.{Bool, true, false}
+use mathlib.Core.List.{List, [], _∷_, _++_}
+use Prim.Native.Nat.{ℕ, zero, suc, _+_, _*_, _-_, _/_}
+use lib.Dec.{leb, ltb}
+use lib.ListN.{getD}
+use Rattle.subdivision.specs.declared.Answer.{Answer}
+use Rattle.subdivision.specs.declared.Answer.the-variants.{Vertex, Edge, Zone}
+use Rattle.subdivision.specs.declared.Side.{Side}
+use Rattle.subdivision.specs.declared.Side.the-variants.{Below, On, Above}
+use Rattle.subdivision.specs.Formula.{Formula, isLess, isAtMost, both, notSo, holds}
+use Rattle.subdivision.specs.Dyadic.{topBit, lowBit}
+use Rattle.subdivision.specs.Sheet.{Sheet, eastMargin, edgeCount, zoneCount, xOf, yOf, westOf, eastOf, aboveOf, belowOf, segment}
+use Rattle.subdivision.specs.Lines.{covers, sideAt}
+use Rattle.subdivision.specs.Rules.{vertexInside, edgeNames, edgeRuns}
+use Rattle.subdivision.specs.Reading.{isVertex}
+use Rattle.subdivision.specs.Index.{placeWord, zoneWord, startWord, entryWord, placeOf, zoneAt, startOf, entryAt}
+
+-- the look-ups that a descent reads, and whether what they give is judged as line 22 says
+pub record LookUps : Type 0 where
+  pub place : ℕ → ℕ
+  pub zone : ℕ → ℕ
+  pub start : ℕ → ℕ
+  pub entry : ℕ → ℕ
+  pub judging : Bool
+
+-- the state of a descent: the places i and j, the chain k, the edges examined so far in order, and the probes so far
+pub record Descent : Type 0 where
+  pub i : ℕ
+  pub j : ℕ
+  pub k : ℕ
+  pub trail : List ℕ
+  pub probes : ℕ
+
+-- what a turn of the descent leads to
+pub data Turn : Type 0 where
+  onward : Descent → Turn
+  answered : Answer → Descent → Turn
+  damaged : Turn
+
+-- what the probes of a chain lead to: the covering edge and the probes made, or none
+pub data Probed : Type 0 where
+  covering : ℕ → ℕ → Probed
+  missing : Probed
+
+-- a judged look-up breaks what it should keep
+abbrev pub breaks : LookUps → Formula → Bool
+breaks w kept = elim (w .judging) [ true ↦ holds (notSo kept) | false ↦ false ]
+
+module _ (s : Sheet) (w : LookUps) (x y : ℕ) where
+  -- line 22: a probed entry is an edge, and its record, its vertices included, is not at fault under 4, 6 or 7
+  abbrev pub entrySound : ℕ → Formula
+  entrySound e =
+      both (isLess e (edgeCount s))
+      (both (edgeNames s e) (both (both (vertexInside s (westOf s e)) (vertexInside s (eastOf s e))) (edgeRuns s e)))
+
+  -- line 22: the start of a chain to be examined and the next start are at most m, and not the wrong way round
+  abbrev pub startsSound : ℕ → Formula
+  startsSound k =
+      both (both (isAtMost (w .start k) (edgeCount s)) (isAtMost (w .start (k + 1)) (edgeCount s))) (isAtMost (w .start k) (w .start (k + 1)))
+
+  -- line 22: both places of an examined edge are below n, and place below < k <= place above
+  abbrev pub placesSound : ℕ → ℕ → Formula
+  placesSound k e =
+      both (both (isLess (w .place (belowOf s e)) (zoneCount s)) (isLess (w .place (aboveOf s e)) (zoneCount s)))
+      (both (isLess (w .place (belowOf s e)) k) (isAtMost k (w .place (aboveOf s e))))
+
+  -- the entries from lo to before hi are probed in the middle, within so many probes: west of x, covering, or beyond
+  abbrev pub probe : ℕ → ℕ → ℕ → ℕ → Probed
+  probe zero lo hi probes = missing
+  probe (suc fuel) lo hi probes =
+      elim (ltb lo hi) [ false ↦ missing | true ↦
+      elim (breaks w (entrySound (w .entry ((lo + hi) / 2)))) [ true ↦ missing | false ↦
+      elim (ltb x (segment s (w .entry ((lo + hi) / 2)) .xw)) [ true ↦ probe fuel lo ((lo + hi) / 2) (suc probes) | false ↦
+      elim (holds (covers (eastMargin s) (segment s (w .entry ((lo + hi) / 2))) x)) [ true ↦ covering (w .entry ((lo + hi) / 2)) (suc probes) | false ↦
+      probe fuel ((lo + hi) / 2 + 1) hi (suc probes) ] ] ] ]
+
+  -- on an examined edge the answer is the vertex if the point is one of its ends, else the edge
+  abbrev pub onEdge : ℕ → Answer
+  onEdge e =
+      elim (holds (isVertex s x y (westOf s e))) [ true ↦ Vertex (westOf s e) | false ↦
+      elim (holds (isVertex s x y (eastOf s e))) [ true ↦ Vertex (eastOf s e) | false ↦ Edge e ] ]
+
+  -- a step that may not make i > j
+  abbrev pub stepped : Descent → Turn
+  stepped d = elim (breaks w (isAtMost (d .i) (d .j))) [ true ↦ damaged | false ↦ onward d ]
+
+  -- edge e of chain k is examined, with so many probes so far: above it i becomes the place of its zone above, below it j that of its zone below
+  abbrev pub examined : Descent → ℕ → ℕ → Turn
+  examined d e probes =
+      elim (breaks w (placesSound (d .k) e)) [ true ↦ damaged | false ↦
+      elim (sideAt (segment s e) x y) [
+      On ↦ answered (onEdge e) (record { i = d .i; j = d .j; k = d .k; trail = d .trail ++ (e ∷ []); probes = probes })
+      | Above ↦ stepped (record { i = w .place (aboveOf s e); j = d .j; k = d .k; trail = d .trail ++ (e ∷ []); probes = probes })
+      | Below ↦ stepped (record { i = d .i; j = w .place (belowOf s e); k = d .k; trail = d .trail ++ (e ∷ []); probes = probes }) ] ]
+
+  -- chain k is examined: its probes, then the edge that covers x
+  abbrev pub examine : Descent → Turn
+  examine d =
+      elim (breaks w (startsSound (d .k))) [ true ↦ damaged | false ↦
+      elim (probe (w .start (d .k + 1)) (w .start (d .k)) (w .start (d .k + 1)) (d .probes)) [ covering e probes ↦ examined d e probes | missing ↦ damaged ] ]
+
+  -- k goes to a son
+  abbrev pub toChain : Descent → ℕ → Descent
+  toChain d k = record { i = d .i; j = d .j; k = k; trail = d .trail; probes = d .probes }
+
+  -- at i = j the answer is the zone at that place
+  abbrev pub arrived : Descent → Turn
+  arrived d = elim (breaks w (isLess (w .zone (d .i)) (zoneCount s))) [ true ↦ damaged | false ↦ answered (Zone (w .zone (d .i))) d ]
+
+  -- one turn: while i < j, to the left son if k > j, to the right son if k <= i, else chain k is examined
+  abbrev pub turn : Descent → Turn
+  turn d =
+      elim (ltb (d .i) (d .j)) [ false ↦ arrived d | true ↦
+      elim (ltb (d .j) (d .k)) [ true ↦ onward (toChain d (d .k - lowBit (d .k) / 2)) | false ↦
+      elim (leb (d .k) (d .i)) [ true ↦ onward (toChain d (d .k + lowBit (d .k) / 2)) | false ↦ examine d ] ] ]
+
+  -- so many turns at most
+  abbrev pub turns : ℕ → Descent → Turn
+  turns zero d = damaged
+  turns (suc fuel) d = elim (turn d) [ onward next ↦ turns fuel next | answered a last ↦ answered a last | damaged ↦ damaged ]
+
+  -- the descent from i = 0, j = n - 1, k = the top bit of n - 1
+  unfoldable pub descent : Turn
+  descent = turns (2 * zoneCount s) (record { i = 0; j = zoneCount s - 1; k = topBit (zoneCount s - 1); trail = []; probes = 0 })
+
+-- the look-ups made from the tables alone: nothing is judged
+abbrev pub tableLookUps : Sheet → LookUps
+tableLookUps s = record { place = placeOf s; zone = zoneAt s; start = startOf s; entry = entryAt s; judging = false }
+
+-- the look-ups made from the words of a lent index: judged as they are read
+abbrev pub indexLookUps : Sheet → List ℕ → LookUps
+indexLookUps s index = record { place = λ z. getD index (placeWord (zoneCount s) z) 0; zone = λ p. getD index (zoneWord (zoneCount s) p) 0; start = λ k. getD index (startWord (zoneCount s) k) 0; entry = λ t. getD index (entryWord (zoneCount s) t) 0; judging = true }
+
+-- the published descent, defined on the tables alone
+unfoldable pub publishedDescent : Sheet → ℕ → ℕ → Turn
+publishedDescent s x y = descent s (tableLookUps s) x y
+
+-- the descent over the words of a lent index
+unfoldable pub indexDescent : Sheet → List ℕ → ℕ → ℕ → Turn
+indexDescent s index x y = descent s (indexLookUps s index) x y

@@ -1,0 +1,80 @@
+-- Why a sheet is refused: document 01, "Why the desk refuses", lines 1 to 13 of its table.
+use mathlib.Core.Bool.{Bool, true, false, not}
+use mathlib.Core.List.{List, [], _∷_, _++_}
+use Prim.Native.Nat.{ℕ, _+_, _*_, _%_}
+use lib.ListN.{length}
+use Rattle.subdivision.specs.declared.Verdict.{Verdict}
+use Rattle.subdivision.specs.declared.Verdict.the-variants.{Passed, Refused}
+use Rattle.subdivision.specs.Limits.{maxVertices, maxEdges, maxZones}
+use Rattle.subdivision.specs.Formula.{Formula, isLess, isAtMost, isEqual, both, notSo, everyBelow, holds}
+use Rattle.subdivision.specs.Lowest.{lowest}
+use Rattle.subdivision.specs.Sheet.{Sheet, westMargin, eastMargin, vertexCount, edgeCount, zoneCount}
+use Rattle.subdivision.specs.Rules.{inRange, vertexInside, vertexNew, edgeNames, edgeRuns, edgeParts, vertexRegular, edgeClear, namesAgree, zoneNamed, rule1, rule2, rule3, rule4, rule5, rule6}
+use Rattle.subdivision.specs.ZoneLine.{Rule7, rule7, aboveCircle}
+
+-- a line of the table: its number, what holds unless it is given, and the clause that its item breaks, of so many items
+pub record Line : Type 0 where
+  pub number : ℕ
+  pub kept : Formula
+  pub clause : ℕ → Formula
+  pub items : ℕ
+
+-- the named item: the lowest that breaks the clause; 0 where there are no items
+abbrev pub names : Line → ℕ
+names l = lowest (λ k. not (holds (l .clause k))) (l .items)
+
+-- a line that names nothing
+abbrev pub unnamed : ℕ → Formula → Line
+unnamed number kept = record { number = number; kept = kept; clause = λ k. kept; items = 0 }
+
+-- a line given when some item breaks a clause, and naming the lowest such
+abbrev pub forEach : ℕ → ℕ → (ℕ → Formula) → Line
+forEach number items clause = record { number = number; kept = everyBelow items clause; clause = clause; items = items }
+
+-- where several apply, the first in the call's order is given
+abbrev pub judged : List Line → Verdict
+judged [] = Passed
+judged (l ∷ ls) = elim (holds (l .kept)) [ true ↦ judged ls | false ↦ Refused (l .number) (names l) ]
+
+-- the need 3n + m + 1 of an index
+abbrev pub indexNeed : ℕ → ℕ → ℕ
+indexNeed n m = 3 * n + m + 1
+
+module _ (s : Sheet) where
+  -- line 1: the tables are whole records, and no count is beyond its limit
+  abbrev pub countsKept : Formula
+  countsKept =
+      both (both (isEqual (length (s .vertices) % 2) 0) (isEqual (length (s .edges) % 4) 0))
+      (both (both (isAtMost (vertexCount s) maxVertices) (isAtMost (edgeCount s) maxEdges))
+      (both (isAtMost 1 (zoneCount s)) (isAtMost (zoneCount s) maxZones)))
+
+  -- line 2: both margins are in range, and W < E
+  abbrev pub marginsKept : Formula
+  marginsKept = both (both (inRange (westMargin s)) (inRange (eastMargin s))) (isLess (westMargin s) (eastMargin s))
+
+  -- lines 1 and 2
+  abbrev pub limitLines : List Line
+  limitLines = unnamed 1 countsKept ∷ unnamed 2 marginsKept ∷ []
+
+  -- line 3: the index has room
+  abbrev pub roomLine : ℕ → Line
+  roomLine words = unnamed 3 (isAtMost (indexNeed (zoneCount s) (edgeCount s)) words)
+
+  -- line 13: rule 7 can't be kept; names the lowest zone with a circle at it or below it
+  abbrev pub circleLine : Line
+  circleLine = record { number = 13; kept = rule7 s; clause = λ z. notSo (aboveCircle s z); items = zoneCount s }
+
+  -- lines 4 to 13
+  abbrev pub ruleLines : List Line
+  ruleLines =
+      forEach 4 (vertexCount s) (vertexInside s)
+      ∷ forEach 5 (vertexCount s) (vertexNew s)
+      ∷ forEach 6 (edgeCount s) (edgeNames s)
+      ∷ forEach 7 (edgeCount s) (edgeRuns s)
+      ∷ forEach 8 (edgeCount s) (edgeParts s)
+      ∷ forEach 9 (vertexCount s) (vertexRegular s)
+      ∷ forEach 10 (edgeCount s) (edgeClear s)
+      ∷ forEach 11 (vertexCount s) (namesAgree s)
+      ∷ forEach 12 (zoneCount s) (zoneNamed s)
+      ∷ circleLine
+      ∷ []
