@@ -1,0 +1,200 @@
+-- The line of rule 7: the line used places each zone once, each after its zones directly below, exactly when some line does.
+use mathlib.Core.Path.{_≡_, refl, sym, ap, _∙_, subst}
+use mathlib.Core.Bool.{Bool, true, false, not}
+use mathlib.Core.List.{List, [], _∷_, _++_}
+use mathlib.Core.Logic.{_⊎_, inl, inr, ⊎-elim, _↔_}
+use Prim.Native.Nat.{ℕ, zero, suc, _+_, _<_, _≤_, zero-le, suc-le-suc}
+use native.Mathlib.Nat.{le-refl, le-suc, lt-irrefl, not-suc-le-zero, le-of-suc-le-suc, suc-ne-zero, add-zero}
+use native.Mathlib.Numerals.{add-one}
+use native.Mathlib.Omega.{arith}
+use lib.Dec.{ltb, eqb}
+use lib.ListN.{length, length-append}
+use borrow.Author.Tests.{eqb-true, eqb-false, eq-eqb, ne-eqb, lt-ltb, le-ltb, ltb-true, ltb-false}
+use Rattle.subdivision.specs.Formula.{Formula, isLess, isEqual, both, implies, notSo, everyBelow, holds, Means}
+use Rattle.subdivision.specs.Lowest.{lowest, countUnder}
+use Rattle.subdivision.specs.Sheet.{Sheet, edgeCount, zoneCount, aboveOf, belowOf}
+use Rattle.subdivision.specs.ZoneLine.{position, isIn, InLine, Rule7, isReady, nextZone, lengthened, lineTo, zoneLine, rule7}
+use Rattle.theory.proofs.Decide.{true-or-false, means, held, denies, fails, broken-item, broken-implies}
+use Rattle.theory.proofs.Lowest.{lowest-passes, lowest-at-most}
+use Rattle.theory.proofs.Counting.{count-all, count-none, count-some, count-less}
+
+-- ---- places in a list
+
+pub position-le : (z : ℕ) (l : List ℕ) → position z l ≤ length l
+position-le z [] = zero-le
+position-le z (x ∷ l) = go (eqb z x) (position-le z l)
+  where
+    go : (b : Bool) → position z l ≤ length l → (elim b [ true ↦ zero | false ↦ suc (position z l) ]) ≤ suc (length l)
+    go true h = zero-le
+    go false h = suc-le-suc h
+
+-- a number that stands in a list keeps its place when the list grows
+pub position-kept : (z : ℕ) (l k : List ℕ) → position z l < length l → position z (l ++ k) ≡ position z l
+position-kept z [] k h = absurd (not-suc-le-zero h)
+position-kept z (x ∷ l) k h = go (eqb z x) h (position-kept z l k)
+  where
+    go : (b : Bool) → (elim b [ true ↦ zero | false ↦ suc (position z l) ]) < suc (length l)
+        → (position z l < length l → position z (l ++ k) ≡ position z l)
+        → _≡_ {A = ℕ} (elim b [ true ↦ zero | false ↦ suc (position z (l ++ k)) ]) (elim b [ true ↦ zero | false ↦ suc (position z l) ])
+    go true h rest = refl
+    go false h rest = ap suc (rest (le-of-suc-le-suc h))
+
+-- a number that does not stand in a list has its place at the end, where it is put there
+pub position-last : (z : ℕ) (l : List ℕ) → position z l ≡ length l → position z (l ++ (z ∷ [])) ≡ length l
+position-last z [] e = rw (eq-eqb z z refl, position)
+position-last z (x ∷ l) e = go (eqb z x) e (position-last z l)
+  where
+    go : (b : Bool) → _≡_ {A = ℕ} (elim b [ true ↦ zero | false ↦ suc (position z l) ]) (suc (length l))
+        → (position z l ≡ length l → position z (l ++ (z ∷ [])) ≡ length l)
+        → _≡_ {A = ℕ} (elim b [ true ↦ zero | false ↦ suc (position z (l ++ (z ∷ []))) ]) (suc (length l))
+    go true h rest = h
+    go false h rest = ap suc (rest (omega arith))
+
+-- another number is still not there
+pub position-other : (y z : ℕ) (l : List ℕ) → (y ≡ z → ⊥) → position y l ≡ length l → position y (l ++ (z ∷ [])) ≡ suc (length l)
+position-other y z [] d e = rw (ne-eqb y z d, position)
+position-other y z (x ∷ l) d e = go (eqb y x) e (position-other y z l d)
+  where
+    go : (b : Bool) → _≡_ {A = ℕ} (elim b [ true ↦ zero | false ↦ suc (position y l) ]) (suc (length l))
+        → (position y l ≡ length l → position y (l ++ (z ∷ [])) ≡ suc (length l))
+        → _≡_ {A = ℕ} (elim b [ true ↦ zero | false ↦ suc (position y (l ++ (z ∷ []))) ]) (suc (suc (length l)))
+    go true h rest = absurd (suc-ne-zero (length l) (sym h))
+    go false h rest = ap suc (rest (omega arith))
+
+absent : (z : ℕ) (l : List ℕ) → (position z l < length l → ⊥) → position z l ≡ length l
+absent z l d = omega (arith, position-le z l)
+
+length-snoc : (z : ℕ) (l : List ℕ) → length (l ++ (z ∷ [])) ≡ suc (length l)
+length-snoc z l = length-append l (z ∷ []) ∙ add-one (length l)
+
+-- what stands in a longer list: what stood there, or what was put at its end
+in-snoc : (y z : ℕ) (l : List ℕ) → position y (l ++ (z ∷ [])) < length (l ++ (z ∷ [])) → (position y l < length l) ⊎ (y ≡ z)
+in-snoc y z l h =
+    ⊎-elim (λ e. inl (means (isIn y l) e)) (λ e. inr (last (absent y l (denies (isIn y l) e)))) (true-or-false (holds (isIn y l)))
+  where
+    last : position y l ≡ length l → y ≡ z
+    last a =
+        ⊎-elim (eqb-true y z)
+        (λ e. absurd (lt-irrefl (suc (length l)) (rw (position-other y z l (eqb-false y z e) a, length-snoc z l) at h)))
+        (true-or-false (eqb y z))
+
+module _ (s : Sheet) where
+  -- zone z is not placed yet
+  abbrev unplaced : List ℕ → ℕ → Bool
+  unplaced l z = holds (notSo (isIn z l))
+
+  -- a part of the line: as many zones are left as places, and each placed zone has its zones directly below before it
+  record Part (l : List ℕ) : Type 0 where
+    rest : countUnder (zoneCount s) (unplaced l) + length l ≡ zoneCount s
+    rising : (e : ℕ) → e < edgeCount s → position (aboveOf s e) l < length l → position (belowOf s e) l < position (aboveOf s e) l
+
+  part-empty : Part []
+  part-empty =
+      record { rest = rw add-zero (count-all (zoneCount s) (unplaced []) (λ k h. held (notSo (isIn k [])) (λ l. not-suc-le-zero l))); rising = λ e h l. absurd (not-suc-le-zero l) }
+
+  one-less : (l : List ℕ) (z : ℕ) → z < zoneCount s → (position z l < length l → ⊥)
+      → countUnder (zoneCount s) (unplaced l) ≡ suc (countUnder (zoneCount s) (unplaced (l ++ (z ∷ []))))
+  one-less l z h d =
+      count-less (zoneCount s) (unplaced l) (unplaced (l ++ (z ∷ []))) z h (held (notSo (isIn z l)) d)
+      (fails (notSo (isIn z (l ++ (z ∷ [])))) (λ f. f (rw (position-last z l (absent z l d), length-snoc z l) (le-refl (suc (length l))))))
+      (λ k b o. same k o)
+    where
+      same : (k : ℕ) → (k ≡ z → ⊥) → unplaced l k ≡ unplaced (l ++ (z ∷ [])) k
+      same k o =
+          ⊎-elim
+          (λ e. ap not (e ∙ sym (held (isIn k (l ++ (z ∷ []))) (rw (position-kept k l (z ∷ []) (means (isIn k l) e), length-snoc z l) (omega (arith, means (isIn k l) e))))))
+          (λ e. ap not (e ∙ sym (fails (isIn k (l ++ (z ∷ []))) (λ i. ⊎-elim (denies (isIn k l) e) o (in-snoc k z l i)))))
+          (true-or-false (holds (isIn k l)))
+
+  part-grows : (l : List ℕ) → Part l → Part (lengthened s l)
+  unfolding nextZone
+  part-grows l p = go (ltb (nextZone s l) (zoneCount s)) refl
+    where
+      grown : (z : ℕ) → z < zoneCount s → Means (isReady s l z) → Part (l ++ (z ∷ []))
+      grown z h r =
+          record { rest = omega (arith, p .rest, one-less l z h (r .0), length-snoc z l); rising = λ e b i. ⊎-elim (old e b) (new e b) (in-snoc (aboveOf s e) z l i) }
+        where
+          old : (e : ℕ) → e < edgeCount s → position (aboveOf s e) l < length l → position (belowOf s e) (l ++ (z ∷ [])) < position (aboveOf s e) (l ++ (z ∷ []))
+          old e b i =
+              let up : position (belowOf s e) l < position (aboveOf s e) l = p .rising e b i in
+              rw (position-kept (aboveOf s e) l (z ∷ []) i, position-kept (belowOf s e) l (z ∷ []) (omega arith)) up
+
+          new : (e : ℕ) → e < edgeCount s → aboveOf s e ≡ z → position (belowOf s e) (l ++ (z ∷ [])) < position (aboveOf s e) (l ++ (z ∷ []))
+          new e b i =
+              let down : position (belowOf s e) l < length l = r .1 e b i in
+              rw (i, position-last z l (absent z l (r .0)), position-kept (belowOf s e) l (z ∷ []) down) down
+
+      go : (b : Bool) → ltb (nextZone s l) (zoneCount s) ≡ b → Part (elim b [ true ↦ l ++ (nextZone s l ∷ []) | false ↦ l ])
+      go true e =
+          let h : nextZone s l < zoneCount s = ltb-true (nextZone s l) (zoneCount s) e in
+          grown (nextZone s l) h (means (isReady s l (nextZone s l)) (lowest-passes (λ z. holds (isReady s l z)) (zoneCount s) h))
+      go false e = p
+
+  part-to : (p : ℕ) → Part (lineTo s p)
+  part-to zero = part-empty
+  part-to (suc p) = part-grows (lineTo s p) (part-to p)
+
+  -- a line that places every zone is such a line
+  pub line-kept : length (zoneLine s) ≡ zoneCount s → ((e : ℕ) → e < edgeCount s → aboveOf s e < zoneCount s) → InLine s (zoneLine s)
+  unfolding zoneLine
+  line-kept full named =
+      record { long = full; holding = holding; rising = λ e h. part-to (zoneCount s) .rising e h (holding (aboveOf s e) (named e h)) }
+    where
+      none : countUnder (zoneCount s) (unplaced (lineTo s (zoneCount s))) ≡ 0
+      none = omega (arith, part-to (zoneCount s) .rest)
+
+      holding : (z : ℕ) → z < zoneCount s → position z (lineTo s (zoneCount s)) < length (lineTo s (zoneCount s))
+      holding z h =
+          ⊎-elim (means (isIn z (lineTo s (zoneCount s))))
+          (λ e. absurd (denies (notSo (isIn z (lineTo s (zoneCount s)))) (count-none (zoneCount s) (unplaced (lineTo s (zoneCount s))) none z h) (denies (isIn z (lineTo s (zoneCount s))) e)))
+          (true-or-false (holds (isIn z (lineTo s (zoneCount s)))))
+
+  -- on a sheet that some line keeps, wherever a zone is left some zone is ready
+  some-ready : (k : List ℕ) → InLine s k → ((e : ℕ) → e < edgeCount s → belowOf s e < zoneCount s) → (l : List ℕ)
+      → (fuel z : ℕ) → position z k < fuel → z < zoneCount s → (position z l < length l → ⊥)
+      → (y : ℕ) × (y < zoneCount s) × (holds (isReady s l y) ≡ true)
+  some-ready k i named l zero z b h d = absurd (not-suc-le-zero b)
+  some-ready k i named l (suc fuel) z b h d =
+      ⊎-elim
+      (λ e. (z, h, held (isReady s l z) (d, means (everyBelow (edgeCount s) clause) e)))
+      (λ e. down (broken-item (edgeCount s) clause e) (some-ready k i named l fuel))
+      (true-or-false (holds (everyBelow (edgeCount s) clause)))
+    where
+      clause : ℕ → Formula
+      clause e = implies (isEqual (aboveOf s e) z) (isIn (belowOf s e) l)
+
+      down : (e : ℕ) × (e < edgeCount s) × (Means (clause e) → ⊥)
+          → ((y : ℕ) → position y k < fuel → y < zoneCount s → (position y l < length l → ⊥) → (y : ℕ) × (y < zoneCount s) × (holds (isReady s l y) ≡ true))
+          → (y : ℕ) × (y < zoneCount s) × (holds (isReady s l y) ≡ true)
+      down f rest =
+          let broken = broken-implies (isEqual (aboveOf s (f .0)) z) (isIn (belowOf s (f .0)) l) (f .2) in
+          let up : position (belowOf s (f .0)) k < position z k = rw (broken .0) at (i .rising (f .0) (f .1)) in
+          rest (belowOf s (f .0)) (omega arith) (named (f .0) (f .1)) (broken .1)
+
+  -- on a sheet that some line keeps, the line used grows by a place at each turn
+  line-grows : (k : List ℕ) → InLine s k → ((e : ℕ) → e < edgeCount s → belowOf s e < zoneCount s) → (p : ℕ) → p ≤ zoneCount s → length (lineTo s p) ≡ p
+  unfolding nextZone
+  line-grows k i named zero h = refl
+  line-grows k i named (suc p) h = grown (line-grows k i named p (omega arith))
+    where
+      l : List ℕ
+      l = lineTo s p
+
+      left : length l ≡ p → (z : ℕ) × (z < zoneCount s) × (unplaced l z ≡ true)
+      left e = count-some (zoneCount s) (unplaced l) (omega (arith, part-to p .rest))
+
+      ready : length l ≡ p → (y : ℕ) × (y < zoneCount s) × (holds (isReady s l y) ≡ true)
+      ready e =
+          some-ready k i named l (suc (position (left e .0) k)) (left e .0) (le-refl (suc (position (left e .0) k))) (left e .1) (means (notSo (isIn (left e .0) l)) (left e .2))
+
+      next : length l ≡ p → nextZone s l < zoneCount s
+      next e = omega (arith, lowest-at-most (λ z. holds (isReady s l z)) (zoneCount s) (ready e .0) (ready e .2), ready e .1)
+
+      grown : length l ≡ p → length (lengthened s l) ≡ suc p
+      grown e = rw (lt-ltb (nextZone s l) (zoneCount s) (next e), lengthened) (length-snoc (nextZone s l) l ∙ ap suc e)
+
+  -- rule 7: the line used has every place filled exactly when the zones can be put in a line
+  pub line-decides : ((e : ℕ) → e < edgeCount s → (aboveOf s e < zoneCount s) × (belowOf s e < zoneCount s)) → (length (zoneLine s) ≡ zoneCount s) ↔ Rule7 s
+  unfolding zoneLine
+  line-decides named =
+      (λ full. (zoneLine s, line-kept full (λ e h. named e h .0)), λ r. line-grows (r .0) (r .1) (λ e h. named e h .1) (zoneCount s) (le-refl (zoneCount s)))
