@@ -1,4 +1,4 @@
 // The tables read as geometry: words with a default past the end, shifted coordinates, covering, the
 // side of a point, and two edges in conflict. Nothing else multiplies coordinates.
-pub mod tables;
 pub mod lines;
+pub mod tables;

@@ -1,9 +1,10 @@
 use subdivision::Segment;
 use subdivision::Side;
 ghost use mathlib.Core.Path.{_≡_};
-ghost use Prim.Native.Nat.{_-_};
+ghost use Prim.Native.Nat.{_*_, _-_, _<_, min, max};
 ghost use Rattle.subdivision.specs.Formula.{holds};
-ghost use Rattle.subdivision.specs.Lines.{covers, pointPart, edgePart, sideAt, conflict};
+ghost use Rattle.subdivision.specs.Lines.{covers, pointPart, edgePart, sideAt, overlapWest, overlapEast, conflict};
+ghost use Rattle.geometry.specs.Crossing.{orderOn, turned, broken};
 
 // An edge covers the abscissa x: half open, and closed at the eastern margin.
 pub fn covers(margin: u32, g: Segment, x: u32) -> bool
@@ -65,4 +66,94 @@ pub fn side(g: Segment, x: u32, y: u32) -> Side
         return Side::Above;
     }
     Side::On
+}
+
+// The larger of two numbers.
+fn larger(a: u32, b: u32) -> u32
+    ensures { λ r. ⌜ r ≡ max a b ⌝ }
+{
+    if a < b {
+        return b;
+    }
+    a
+}
+
+// The smaller of two numbers.
+fn smaller(a: u32, b: u32) -> u32
+    ensures { λ r. ⌜ r ≡ min a b ⌝ }
+{
+    if b < a {
+        return b;
+    }
+    a
+}
+
+// The side, seen from the other edge.
+fn turned(s: Side) -> Side
+    ensures { λ r. ⌜ r ≡ turned s ⌝ }
+{
+    match s {
+        Side::Below => Side::Above,
+        Side::On => Side::On,
+        Side::Above => Side::Below,
+    }
+}
+
+// The side of g on which h lies at the western end of their overlap: the western vertex there, against the other edge.
+fn order_west(g: Segment, h: Segment) -> Side
+    requires { ⌜ overlapWest g h < overlapEast g h ⌝ }
+    ensures { λ r. ⌜ r ≡ orderOn (2 * overlapWest g h) g h ⌝ }
+{
+    if g.xw <= h.xw {
+        return side(g, h.xw, h.yw);
+    }
+    turned(side(h, g.xw, g.yw))
+}
+
+// The side of g on which h lies at the eastern end of their overlap: the eastern vertex there, against the other edge.
+fn order_east(g: Segment, h: Segment) -> Side
+    requires { ⌜ overlapWest g h < overlapEast g h ⌝ }
+    ensures { λ r. ⌜ r ≡ orderOn (2 * overlapEast g h) g h ⌝ }
+{
+    if h.xe <= g.xe {
+        return side(g, h.xe, h.ye);
+    }
+    turned(side(h, g.xe, g.ye))
+}
+
+// Rule 4 is broken, from the order at the two ends of an overlap, a common western vertex (fork) and a common eastern one (meet).
+fn broken(west: Side, east: Side, fork: bool, meet: bool) -> bool
+    ensures { λ r. ⌜ r ≡ broken west east fork meet ⌝ }
+{
+    match west {
+        Side::Below => match east {
+            Side::Below => false,
+            Side::On => !meet,
+            Side::Above => true,
+        },
+        Side::On => match east {
+            Side::Below => !fork,
+            Side::On => true,
+            Side::Above => !fork,
+        },
+        Side::Above => match east {
+            Side::Below => true,
+            Side::On => !meet,
+            Side::Above => false,
+        },
+    }
+}
+
+// Two edges break rule 4: decided by side tests of their vertices, never by heights.
+pub fn conflict(g: Segment, h: Segment) -> bool
+    ensures { λ r. ⌜ r ≡ holds (conflict g h) ⌝ }
+{
+    let a = larger(g.xw, h.xw);
+    let b = smaller(g.xe, h.xe);
+    if b <= a {
+        return false;
+    }
+    let west = order_west(g, h);
+    let east = order_east(g, h);
+    broken(west, east, g.west == h.west, g.east == h.east)
 }

@@ -11,7 +11,7 @@ use Rattle.subdivision.specs.declared.Found.{Found}
 use Rattle.subdivision.specs.Formula.{Formula, isAtMost, holds}
 use Rattle.subdivision.specs.Dyadic.{bits}
 use Rattle.subdivision.specs.Sheet.{Sheet, zoneCount, shifted}
-use Rattle.subdivision.specs.Refusals.{judged, limitLines, roomLine, ruleLines}
+use Rattle.subdivision.specs.Refusals.{judged, limitRefusals, roomRefusal, ruleRefusals}
 use Rattle.subdivision.specs.Reading.{onSheet, plainReading}
 use Rattle.subdivision.specs.Index.{put, indexWords}
 use Rattle.subdivision.specs.Descent.{Descent, Turn, onward, answered, damaged, indexDescent}
@@ -40,19 +40,19 @@ module _ (s : Sheet) where
   -- opening checks 1 to 13 in this order and then writes the index
   unfoldable pub opening : List ℕ → Opened
   opening index =
-      elim (judged (limitLines s ++ (roomLine s (length index) ∷ ruleLines s))) [ Passed ↦ record { verdict = Passed; index = put (indexWords s) index } | Refused number item ↦ record { verdict = Refused number item; index = index } ]
+      elim (judged (limitRefusals s ++ (roomRefusal s (length index) ∷ ruleRefusals s))) [ Passed ↦ record { verdict = Passed; index = put (indexWords s) index } | Refused number item ↦ record { verdict = Refused number item; index = index } ]
 
   -- the plain reading checks 1, 2, 4 to 13, 20 and needs no index
   unfoldable pub reading : ℤ → ℤ → Answer
   reading x y =
-      elim (judged (limitLines s ++ ruleLines s)) [ Refused number item ↦ Answer.Refused number item | Passed ↦
+      elim (judged (limitRefusals s ++ ruleRefusals s)) [ Refused number item ↦ Answer.Refused number item | Passed ↦
       elim (holds (onSheet s (shifted x) (shifted y))) [ false ↦ Answer.Refused 20 0 | true ↦ plainReading s (shifted x) (shifted y) ] ]
 
-  -- line 21: the trail has room for bits(n-1) edges
+  -- refusal 21: the trail has room for bits(n-1) edges
   abbrev pub trailRoom : ℕ → Formula
   trailRoom places = isAtMost (bits (zoneCount s - 1)) places
 
-  -- the descent's last turn as a search's result; line 22 where it is damaged
+  -- the descent's last turn as a search's result; refusal 22 where it is damaged
   abbrev pub searchEnded : Turn → List ℕ → Searched
   searchEnded (onward d) trail = searchRefused 22 0 trail
   searchEnded (answered a d) trail = searchAnswered a d trail
@@ -61,7 +61,7 @@ module _ (s : Sheet) where
   -- the quick search checks 1, 2, 3, 20, 21, and 22 as it goes
   unfoldable pub searching : List ℕ → ℤ → ℤ → List ℕ → Searched
   searching index x y trail =
-      elim (judged (limitLines s ++ (roomLine s (length index) ∷ []))) [ Refused number item ↦ searchRefused number item trail | Passed ↦
+      elim (judged (limitRefusals s ++ (roomRefusal s (length index) ∷ []))) [ Refused number item ↦ searchRefused number item trail | Passed ↦
       elim (holds (onSheet s (shifted x) (shifted y))) [ false ↦ searchRefused 20 0 trail | true ↦
       elim (holds (trailRoom (length trail))) [ false ↦ searchRefused 21 0 trail | true ↦
       searchEnded (indexDescent s index (shifted x) (shifted y)) trail ] ] ]

@@ -1,4 +1,4 @@
--- The descent: document 01, "Index and descent", second and third paragraph, and line 22 of the table of refusals. Points are shifted.
+-- The descent: document 01, "Index and descent", second and third paragraph, and refusal 22. Points are shifted.
 use mathlib.Core.Bool.{Bool, true, false}
 use mathlib.Core.List.{List, [], _∷_, _++_}
 use Prim.Native.Nat.{ℕ, zero, suc, _+_, _*_, _-_, _/_}
@@ -16,7 +16,7 @@ use Rattle.subdivision.specs.Rules.{vertexInside, edgeNames, edgeRuns}
 use Rattle.subdivision.specs.Reading.{isVertex}
 use Rattle.subdivision.specs.Index.{placeWord, zoneWord, startWord, entryWord, placeOf, zoneAt, startOf, entryAt}
 
--- the look-ups that a descent reads, and whether what they give is judged as line 22 says
+-- the look-ups that a descent reads, and whether what they give is judged as refusal 22 says
 pub record LookUps : Type 0 where
   pub place : ℕ → ℕ
   pub zone : ℕ → ℕ
@@ -48,18 +48,18 @@ abbrev pub breaks : LookUps → Formula → Bool
 breaks w kept = elim (w .judging) [ true ↦ holds (notSo kept) | false ↦ false ]
 
 module _ (s : Sheet) (w : LookUps) (x y : ℕ) where
-  -- line 22: a probed entry is an edge, and its record, its vertices included, is not at fault under 4, 6 or 7
+  -- refusal 22: a probed entry is an edge, and its record, its vertices included, is not at fault under 4, 6 or 7
   abbrev pub entrySound : ℕ → Formula
   entrySound e =
       both (isLess e (edgeCount s))
       (both (edgeNames s e) (both (both (vertexInside s (westOf s e)) (vertexInside s (eastOf s e))) (edgeRuns s e)))
 
-  -- line 22: the start of a chain to be examined and the next start are at most m, and not the wrong way round
+  -- refusal 22: the start of a chain to be examined and the next start are at most m, and not the wrong way round
   abbrev pub startsSound : ℕ → Formula
   startsSound k =
       both (both (isAtMost (w .start k) (edgeCount s)) (isAtMost (w .start (k + 1)) (edgeCount s))) (isAtMost (w .start k) (w .start (k + 1)))
 
-  -- line 22: both places of an examined edge are below n, and place below < k <= place above
+  -- refusal 22: both places of an examined edge are below n, and place below < k <= place above
   abbrev pub placesSound : ℕ → ℕ → Formula
   placesSound k e =
       both (both (isLess (w .place (belowOf s e)) (zoneCount s)) (isLess (w .place (aboveOf s e)) (zoneCount s)))

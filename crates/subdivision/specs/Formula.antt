@@ -6,6 +6,7 @@ use mathlib.Core.Logic.{_⊎_}
 use Prim.Native.Nat.{ℕ, zero, suc, _<_, _≤_}
 use lib.Dec.{leb, ltb, eqb}
 
+-- a formula: an order or equality of two numbers, or one made of others, with all or some of the numbers below a count
 pub data Formula : Type 0 where
   isLess isAtMost isEqual : ℕ → ℕ → Formula
   both either implies : Formula → Formula → Formula

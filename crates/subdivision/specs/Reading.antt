@@ -42,10 +42,11 @@ module _ (s : Sheet) where
   abbrev pub overhead : ℕ → ℕ → ℕ → Formula
   overhead x y e = both (covers (eastMargin s) (segment s e) x) (isBelow (segment s e) x y)
 
-  -- the same with the western reading's cover
+  -- edge e has the western reading's cover of x and is strictly below the point
   abbrev pub beneathWest : ℕ → ℕ → ℕ → Formula
   beneathWest x y e = both (coversWest (segment s e) x) (isAbove (segment s e) x y)
 
+  -- edge e has the western reading's cover of x and is strictly above the point
   abbrev pub overheadWest : ℕ → ℕ → ℕ → Formula
   overheadWest x y e = both (coversWest (segment s e) x) (isBelow (segment s e) x y)
 

@@ -12,61 +12,61 @@ use Rattle.subdivision.specs.Sheet.{Sheet, westMargin, eastMargin, verte
 use Rattle.subdivision.specs.Rules.{inRange, vertexInside, vertexNew, edgeNames, edgeRuns, edgeParts, vertexRegular, edgeClear, namesAgree, zoneNamed, rule1, rule2, rule3, rule4, rule5, rule6}
 use Rattle.subdivision.specs.ZoneLine.{Rule7, rule7, aboveCircle}
 
--- a line of the table: its number, what holds unless it is given, and the clause that its item breaks, of so many items
-pub record Line : Type 0 where
+-- a line of the table: the number, what holds unless it is given, and the clause that its named item breaks, of so many items
+pub record Refusal : Type 0 where
   pub number : ℕ
   pub kept : Formula
   pub clause : ℕ → Formula
   pub items : ℕ
 
 -- the named item: the lowest that breaks the clause; 0 where there are no items
-abbrev pub names : Line → ℕ
-names l = lowest (λ k. not (holds (l .clause k))) (l .items)
+abbrev pub names : Refusal → ℕ
+names r = lowest (λ k. not (holds (r .clause k))) (r .items)
 
--- a line that names nothing
-abbrev pub unnamed : ℕ → Formula → Line
+-- a refusal that names nothing
+abbrev pub unnamed : ℕ → Formula → Refusal
 unnamed number kept = record { number = number; kept = kept; clause = λ k. kept; items = 0 }
 
--- a line given when some item breaks a clause, and naming the lowest such
-abbrev pub forEach : ℕ → ℕ → (ℕ → Formula) → Line
+-- a refusal given when some item breaks a clause; it names the lowest such
+abbrev pub forEach : ℕ → ℕ → (ℕ → Formula) → Refusal
 forEach number items clause = record { number = number; kept = everyBelow items clause; clause = clause; items = items }
 
 -- where several apply, the first in the call's order is given
-abbrev pub judged : List Line → Verdict
+abbrev pub judged : List Refusal → Verdict
 judged [] = Passed
-judged (l ∷ ls) = elim (holds (l .kept)) [ true ↦ judged ls | false ↦ Refused (l .number) (names l) ]
+judged (r ∷ rs) = elim (holds (r .kept)) [ true ↦ judged rs | false ↦ Refused (r .number) (names r) ]
 
 -- the need 3n + m + 1 of an index
 abbrev pub indexNeed : ℕ → ℕ → ℕ
 indexNeed n m = 3 * n + m + 1
 
 module _ (s : Sheet) where
-  -- line 1: the tables are whole records, and no count is beyond its limit
+  -- refusal 1: the tables are whole records, and no count is beyond its limit
   abbrev pub countsKept : Formula
   countsKept =
       both (both (isEqual (length (s .vertices) % 2) 0) (isEqual (length (s .edges) % 4) 0))
       (both (both (isAtMost (vertexCount s) maxVertices) (isAtMost (edgeCount s) maxEdges))
       (both (isAtMost 1 (zoneCount s)) (isAtMost (zoneCount s) maxZones)))
 
-  -- line 2: both margins are in range, and W < E
+  -- refusal 2: both margins are in range, and W < E
   abbrev pub marginsKept : Formula
   marginsKept = both (both (inRange (westMargin s)) (inRange (eastMargin s))) (isLess (westMargin s) (eastMargin s))
 
-  -- lines 1 and 2
-  abbrev pub limitLines : List Line
-  limitLines = unnamed 1 countsKept ∷ unnamed 2 marginsKept ∷ []
+  -- refusals 1 and 2, in order
+  abbrev pub limitRefusals : List Refusal
+  limitRefusals = unnamed 1 countsKept ∷ unnamed 2 marginsKept ∷ []
 
-  -- line 3: the index has room
-  abbrev pub roomLine : ℕ → Line
-  roomLine words = unnamed 3 (isAtMost (indexNeed (zoneCount s) (edgeCount s)) words)
+  -- refusal 3: the index has room
+  abbrev pub roomRefusal : ℕ → Refusal
+  roomRefusal words = unnamed 3 (isAtMost (indexNeed (zoneCount s) (edgeCount s)) words)
 
-  -- line 13: rule 7 can't be kept; names the lowest zone with a circle at it or below it
-  abbrev pub circleLine : Line
-  circleLine = record { number = 13; kept = rule7 s; clause = λ z. notSo (aboveCircle s z); items = zoneCount s }
+  -- refusal 13: rule 7 can't be kept; names the lowest zone with a circle at it or below it
+  abbrev pub circleRefusal : Refusal
+  circleRefusal = record { number = 13; kept = rule7 s; clause = λ z. notSo (aboveCircle s z); items = zoneCount s }
 
-  -- lines 4 to 13
-  abbrev pub ruleLines : List Line
-  ruleLines =
+  -- refusals 4 to 13, in order
+  abbrev pub ruleRefusals : List Refusal
+  ruleRefusals =
       forEach 4 (vertexCount s) (vertexInside s)
       ∷ forEach 5 (vertexCount s) (vertexNew s)
       ∷ forEach 6 (edgeCount s) (edgeNames s)
@@ -76,5 +76,5 @@ module _ (s : Sheet) where
       ∷ forEach 10 (edgeCount s) (edgeClear s)
       ∷ forEach 11 (vertexCount s) (namesAgree s)
       ∷ forEach 12 (zoneCount s) (zoneNamed s)
-      ∷ circleLine
+      ∷ circleRefusal
       ∷ []

@@ -43,9 +43,11 @@ module _ (s : Sheet) where
   abbrev pub easternEdge : ℕ → ℕ → Formula
   easternEdge v e = isEqual (westOf s e) v
 
+  -- vertex v has an edge on its west
   abbrev pub hasWestern : ℕ → Formula
   hasWestern v = someBelow (edgeCount s) (westernEdge v)
 
+  -- vertex v has an edge on its east
   abbrev pub hasEastern : ℕ → Formula
   hasEastern v = someBelow (edgeCount s) (easternEdge v)
 
@@ -59,10 +61,11 @@ module _ (s : Sheet) where
   abbrev pub edgeClear : ℕ → Formula
   edgeClear e = everyBelow e (λ f. notSo (conflict (segment s f) (segment s e)))
 
-  -- the doubled lines x - 1/2 and x + 1/2 on either side of vertex v
+  -- the doubled line x - 1/2 beside vertex v
   abbrev pub lineWestOf : ℕ → ℕ
   lineWestOf v = 2 * xOf s v - 1
 
+  -- the doubled line x + 1/2 beside vertex v
   abbrev pub lineEastOf : ℕ → ℕ
   lineEastOf v = 2 * xOf s v + 1
 
@@ -113,22 +116,28 @@ module _ (s : Sheet) where
   zoneNamed z =
       either (someBelow (edgeCount s) (λ e. either (isEqual (aboveOf s e) z) (isEqual (belowOf s e) z))) emptySheet
 
+  -- rule 1: every vertex is in range and W <= x <= E; no two are the same point
   abbrev pub rule1 : Formula
   rule1 = both (everyBelow (vertexCount s) vertexInside) (everyBelow (vertexCount s) vertexNew)
 
+  -- rule 2: each edge names vertices and zones that exist, runs strictly west to east, and has different zones above and below
   abbrev pub rule2 : Formula
   rule2 =
       both (everyBelow (edgeCount s) edgeNames)
       (both (everyBelow (edgeCount s) edgeRuns) (everyBelow (edgeCount s) edgeParts))
 
+  -- rule 3: every vertex is regular
   abbrev pub rule3 : Formula
   rule3 = everyBelow (vertexCount s) vertexRegular
 
+  -- rule 4: no two edges share a point but a common end
   abbrev pub rule4 : Formula
   rule4 = everyBelow (edgeCount s) edgeClear
 
+  -- rule 5: names agree at each vertex
   abbrev pub rule5 : Formula
   rule5 = everyBelow (vertexCount s) namesAgree
 
+  -- rule 6: every zone is named by some edge
   abbrev pub rule6 : Formula
   rule6 = everyBelow (zoneCount s) zoneNamed

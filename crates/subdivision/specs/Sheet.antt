@@ -69,23 +69,30 @@ module _ (s : Sheet) where
   abbrev pub zoneCount : ℕ
   zoneCount = s .zones
 
+  -- x of vertex v
   abbrev pub xOf : ℕ → ℕ
   xOf v = vertexX (s .vertices) v
 
+  -- y of vertex v
   abbrev pub yOf : ℕ → ℕ
   yOf v = vertexY (s .vertices) v
 
+  -- the western vertex of edge e
   abbrev pub westOf : ℕ → ℕ
   westOf e = edgeWest (s .edges) e
 
+  -- the eastern vertex of edge e
   abbrev pub eastOf : ℕ → ℕ
   eastOf e = edgeEast (s .edges) e
 
+  -- the zone above edge e
   abbrev pub aboveOf : ℕ → ℕ
   aboveOf e = edgeAbove (s .edges) e
 
+  -- the zone below edge e
   abbrev pub belowOf : ℕ → ℕ
   belowOf e = edgeBelow (s .edges) e
 
+  -- edge e with its ends
   abbrev pub segment : ℕ → Segment
   segment e = segmentOf (s .vertices) (s .edges) e

@@ -1,7 +1,14 @@
 -- Laws of the definitions of `subdivision`, a file a subject.
+pub mod Counting
 pub mod Decide
 pub mod Dyadic
-pub mod Lowest
-pub mod Counting
-pub mod ZoneLine
+pub mod Heights
 pub mod Judgement
+pub mod Lowest
+pub mod Merge
+pub mod Order
+pub mod Shift
+pub mod Sides
+pub mod Tab
+pub mod Tables
+pub mod ZoneLine

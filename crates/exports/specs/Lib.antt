@@ -1,0 +1,2 @@
+-- What the exported functions promise beyond the definitions of `subdivision`.
+pub mod Flags

@@ -1,0 +1,2 @@
+-- What the private functions of `geometry` promise.
+pub mod Crossing
