@@ -1,5 +1,5 @@
 // The worked cases of document 01 that the leaves answer, a line each: lca, top bits, and on the lens
-// sheet the order from west to east, the side of each covering edge at the seven points, and rule 4.
+// sheet the order from west to east, the side of each covering edge at the seven points, and rule 4; then rule 4 broken.
 use libc::STDOUT_FILENO;
 use subdivision::Segment;
 use subdivision::Side;
@@ -99,24 +99,50 @@ fn point(name: &[u8], x: i32, y: i32) {
     text(b"\n");
 }
 
-// Whether edges e and f break rule 4.
-fn pair(e: u32, f: u32) {
-    if geometry::lines::conflict(edge(e), edge(f)) {
-        number(e);
-        text(b" with");
-        number(f);
+fn answer(b: bool) {
+    if b {
+        text(b" yes\n");
+    } else {
+        text(b" no\n");
     }
 }
 
-fn conflicts() {
-    text(b"edges that break rule 4:");
+// Whether two edges of the lens sheet break rule 4.
+fn pair(e: u32, f: u32) {
+    text(b"edges");
+    number(e);
+    number(f);
+    text(b" break rule 4:");
+    answer(geometry::lines::conflict(edge(e), edge(f)));
+}
+
+fn pairs() {
     pair(0, 1);
     pair(0, 2);
     pair(0, 3);
     pair(1, 2);
     pair(1, 3);
     pair(2, 3);
-    text(b"\n");
+}
+
+// An edge between two points that are no vertices of the lens sheet.
+fn between(west: u32, east: u32, xw: i32, yw: i32, xe: i32, ye: i32) -> Segment {
+    Segment {
+        west: west,
+        east: east,
+        xw: geometry::tables::shifted(xw),
+        yw: geometry::tables::shifted(yw),
+        xe: geometry::tables::shifted(xe),
+        ye: geometry::tables::shifted(ye),
+    }
+}
+
+// Rule 4 off the lens sheet: the diagonals of a square, and one edge drawn twice.
+fn crossings() {
+    text(b"the diagonals of a square break rule 4:");
+    answer(geometry::lines::conflict(between(0, 1, 0, 0, 4, 4), between(2, 3, 0, 4, 4, 0)));
+    text(b"an edge drawn twice breaks rule 4:");
+    answer(geometry::lines::conflict(between(0, 1, 0, 0, 4, 4), between(0, 1, 0, 0, 4, 4)));
 }
 
 fn points() {
@@ -136,5 +162,6 @@ fn main() {
     top_bits();
     eastward();
     points();
-    conflicts();
+    pairs();
+    crossings();
 }

@@ -12,10 +12,10 @@ flag true = 1
 flag false = 0
 
 -- so many numbers can be sorted: they fit 32 bits, and the scratch has as many places
-abbrev pub sortFits : ℕ → ℕ → Bool
+unfoldable pub sortFits : ℕ → ℕ → Bool
 sortFits count scratch = elim (leb count scratch) [ true ↦ leb count 4294967296 | false ↦ false ]
 
 -- what a sort leaves in the lent order: the numbers in order of their keys where they can be sorted, else what was there
-abbrev pub sortLeaves : List ℕ → List ℕ → ℕ → List ℕ
+unfoldable pub sortLeaves : List ℕ → List ℕ → ℕ → List ℕ
 sortLeaves keys order scratch =
     elim (sortFits (length order) scratch) [ true ↦ inOrder (λ k. getD keys k 0) (length order) | false ↦ order ]

@@ -45,8 +45,11 @@ module _ (s : Sheet) where
   -- the plain reading checks 1, 2, 4 to 13, 20 and needs no index
   unfoldable pub reading : ℤ → ℤ → Answer
   reading x y =
-      elim (judged (limitRefusals s ++ ruleRefusals s)) [ Refused number item ↦ Answer.Refused number item | Passed ↦
-      elim (holds (onSheet s (shifted x) (shifted y))) [ false ↦ Answer.Refused 20 0 | true ↦ plainReading s (shifted x) (shifted y) ] ]
+      elim (judged (limitRefusals s ++ ruleRefusals s)) [
+        | Refused number item ↦ Answer.Refused number item
+        | Passed ↦
+            elim (holds (onSheet s (shifted x) (shifted y))) [ false ↦ Answer.Refused 20 0 | true ↦ plainReading s (shifted x) (shifted y) ]
+      ]
 
   -- refusal 21: the trail has room for bits(n-1) edges
   abbrev pub trailRoom : ℕ → Formula
@@ -61,7 +64,16 @@ module _ (s : Sheet) where
   -- the quick search checks 1, 2, 3, 20, 21, and 22 as it goes
   unfoldable pub searching : List ℕ → ℤ → ℤ → List ℕ → Searched
   searching index x y trail =
-      elim (judged (limitRefusals s ++ (roomRefusal s (length index) ∷ []))) [ Refused number item ↦ searchRefused number item trail | Passed ↦
-      elim (holds (onSheet s (shifted x) (shifted y))) [ false ↦ searchRefused 20 0 trail | true ↦
-      elim (holds (trailRoom (length trail))) [ false ↦ searchRefused 21 0 trail | true ↦
-      searchEnded (indexDescent s index (shifted x) (shifted y)) trail ] ] ]
+      elim (judged (limitRefusals s ++ (roomRefusal s (length index) ∷ []))) [
+        | Refused number item ↦ searchRefused number item trail
+        | Passed ↦
+            elim (holds (onSheet s (shifted x) (shifted y))) [
+              | false ↦ searchRefused 20 0 trail
+              | true ↦
+                  elim (holds (trailRoom (length trail))) [
+                    | false ↦ searchRefused 21 0 trail
+                    | true ↦
+                        searchEnded (indexDescent s index (shifted x) (shifted y)) trail
+                  ]
+            ]
+      ]

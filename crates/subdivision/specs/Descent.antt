@@ -69,17 +69,32 @@ module _ (s : Sheet) (w : LookUps) (x y : ℕ) where
   abbrev pub probe : ℕ → ℕ → ℕ → ℕ → Probed
   probe zero lo hi probes = missing
   probe (suc fuel) lo hi probes =
-      elim (ltb lo hi) [ false ↦ missing | true ↦
-      elim (breaks w (entrySound (w .entry ((lo + hi) / 2)))) [ true ↦ missing | false ↦
-      elim (ltb x (segment s (w .entry ((lo + hi) / 2)) .xw)) [ true ↦ probe fuel lo ((lo + hi) / 2) (suc probes) | false ↦
-      elim (holds (covers (eastMargin s) (segment s (w .entry ((lo + hi) / 2))) x)) [ true ↦ covering (w .entry ((lo + hi) / 2)) (suc probes) | false ↦
-      probe fuel ((lo + hi) / 2 + 1) hi (suc probes) ] ] ] ]
+      elim (ltb lo hi) [
+        | false ↦ missing
+        | true ↦
+            elim (breaks w (entrySound (w .entry ((lo + hi) / 2)))) [
+              | true ↦ missing
+              | false ↦
+                  elim (ltb x (segment s (w .entry ((lo + hi) / 2)) .xw)) [
+                    | true ↦ probe fuel lo ((lo + hi) / 2) (suc probes)
+                    | false ↦
+                        elim (holds (covers (eastMargin s) (segment s (w .entry ((lo + hi) / 2))) x)) [
+                          | true ↦ covering (w .entry ((lo + hi) / 2)) (suc probes)
+                          | false ↦
+                              probe fuel ((lo + hi) / 2 + 1) hi (suc probes)
+                        ]
+                  ]
+            ]
+      ]
 
   -- on an examined edge the answer is the vertex if the point is one of its ends, else the edge
   abbrev pub onEdge : ℕ → Answer
   onEdge e =
-      elim (holds (isVertex s x y (westOf s e))) [ true ↦ Vertex (westOf s e) | false ↦
-      elim (holds (isVertex s x y (eastOf s e))) [ true ↦ Vertex (eastOf s e) | false ↦ Edge e ] ]
+      elim (holds (isVertex s x y (westOf s e))) [
+        | true ↦ Vertex (westOf s e)
+        | false ↦
+            elim (holds (isVertex s x y (eastOf s e))) [ true ↦ Vertex (eastOf s e) | false ↦ Edge e ]
+      ]
 
   -- a step that may not make i > j
   abbrev pub stepped : Descent → Turn
@@ -88,17 +103,24 @@ module _ (s : Sheet) (w : LookUps) (x y : ℕ) where
   -- edge e of chain k is examined, with so many probes so far: above it i becomes the place of its zone above, below it j that of its zone below
   abbrev pub examined : Descent → ℕ → ℕ → Turn
   examined d e probes =
-      elim (breaks w (placesSound (d .k) e)) [ true ↦ damaged | false ↦
-      elim (sideAt (segment s e) x y) [
-      On ↦ answered (onEdge e) (record { i = d .i; j = d .j; k = d .k; trail = d .trail ++ (e ∷ []); probes = probes })
-      | Above ↦ stepped (record { i = w .place (aboveOf s e); j = d .j; k = d .k; trail = d .trail ++ (e ∷ []); probes = probes })
-      | Below ↦ stepped (record { i = d .i; j = w .place (belowOf s e); k = d .k; trail = d .trail ++ (e ∷ []); probes = probes }) ] ]
+      elim (breaks w (placesSound (d .k) e)) [
+        | true ↦ damaged
+        | false ↦
+            elim (sideAt (segment s e) x y) [
+              | On ↦ answered (onEdge e) (record { i = d .i; j = d .j; k = d .k; trail = d .trail ++ (e ∷ []); probes = probes })
+              | Above ↦ stepped (record { i = w .place (aboveOf s e); j = d .j; k = d .k; trail = d .trail ++ (e ∷ []); probes = probes })
+              | Below ↦ stepped (record { i = d .i; j = w .place (belowOf s e); k = d .k; trail = d .trail ++ (e ∷ []); probes = probes })
+            ]
+      ]
 
   -- chain k is examined: its probes, then the edge that covers x
   abbrev pub examine : Descent → Turn
   examine d =
-      elim (breaks w (startsSound (d .k))) [ true ↦ damaged | false ↦
-      elim (probe (w .start (d .k + 1)) (w .start (d .k)) (w .start (d .k + 1)) (d .probes)) [ covering e probes ↦ examined d e probes | missing ↦ damaged ] ]
+      elim (breaks w (startsSound (d .k))) [
+        | true ↦ damaged
+        | false ↦
+            elim (probe (w .start (d .k + 1)) (w .start (d .k)) (w .start (d .k + 1)) (d .probes)) [ covering e probes ↦ examined d e probes | missing ↦ damaged ]
+      ]
 
   -- k goes to a son
   abbrev pub toChain : Descent → ℕ → Descent
@@ -111,9 +133,15 @@ module _ (s : Sheet) (w : LookUps) (x y : ℕ) where
   -- one turn: while i < j, to the left son if k > j, to the right son if k <= i, else chain k is examined
   abbrev pub turn : Descent → Turn
   turn d =
-      elim (ltb (d .i) (d .j)) [ false ↦ arrived d | true ↦
-      elim (ltb (d .j) (d .k)) [ true ↦ onward (toChain d (d .k - lowBit (d .k) / 2)) | false ↦
-      elim (leb (d .k) (d .i)) [ true ↦ onward (toChain d (d .k + lowBit (d .k) / 2)) | false ↦ examine d ] ] ]
+      elim (ltb (d .i) (d .j)) [
+        | false ↦ arrived d
+        | true ↦
+            elim (ltb (d .j) (d .k)) [
+              | true ↦ onward (toChain d (d .k - lowBit (d .k) / 2))
+              | false ↦
+                  elim (leb (d .k) (d .i)) [ true ↦ onward (toChain d (d .k + lowBit (d .k) / 2)) | false ↦ examine d ]
+            ]
+      ]
 
   -- so many turns at most
   abbrev pub turns : ℕ → Descent → Turn

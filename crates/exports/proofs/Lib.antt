@@ -1,0 +1,2 @@
+-- Laws that more than one proof of `exports` cites.
+pub mod Flags
