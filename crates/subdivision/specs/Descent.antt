@@ -6,11 +6,12 @@ use lib.Dec.{leb, ltb}
 use lib.ListN.{getD}
 use Rattle.subdivision.specs.declared.Answer.{Answer}
 use Rattle.subdivision.specs.declared.Answer.the-variants.{Vertex, Edge, Zone}
-use Rattle.subdivision.specs.declared.Side.{Side}
+use Rattle.subdivision.specs.declared.Look.{Look}
+use Rattle.subdivision.specs.declared.Look.the-variants.{Faulty, West, Covering, Beyond}
 use Rattle.subdivision.specs.declared.Side.the-variants.{Below, On, Above}
 use Rattle.subdivision.specs.Formula.{Formula, isLess, isAtMost, both, notSo, holds}
 use Rattle.subdivision.specs.Dyadic.{topBit, lowBit}
-use Rattle.subdivision.specs.Sheet.{Sheet, eastMargin, edgeCount, zoneCount, xOf, yOf, westOf, eastOf, aboveOf, belowOf, segment}
+use Rattle.subdivision.specs.Sheet.{Sheet, eastMargin, edgeCount, zoneCount, westOf, eastOf, aboveOf, belowOf, segment}
 use Rattle.subdivision.specs.Lines.{covers, sideAt}
 use Rattle.subdivision.specs.Rules.{vertexInside, edgeNames, edgeRuns}
 use Rattle.subdivision.specs.Reading.{isVertex}
@@ -40,7 +41,7 @@ pub data Turn : Type 0 where
 
 -- what the probes of a chain lead to: the covering edge and the probes made, or none
 pub data Probed : Type 0 where
-  covering : ℕ → ℕ → Probed
+  covered : ℕ → ℕ → Probed
   missing : Probed
 
 -- a judged look-up breaks what it should keep
@@ -65,25 +66,31 @@ module _ (s : Sheet) (w : LookUps) (x y : ℕ) where
       both (both (isLess (w .place (belowOf s e)) (zoneCount s)) (isLess (w .place (aboveOf s e)) (zoneCount s)))
       (both (isLess (w .place (belowOf s e)) k) (isAtMost k (w .place (aboveOf s e))))
 
-  -- the entries from lo to before hi are probed in the middle, within so many probes: west of x, covering, or beyond
+  -- one look at entry e: x < western x, x beyond the covered part, or otherwise that edge covers
+  abbrev pub look : ℕ → Look
+  look e =
+      elim (breaks w (entrySound e)) [
+        | true ↦ Faulty
+        | false ↦
+            elim (ltb x (segment s e .xw)) [
+              | true ↦ West
+              | false ↦
+                  elim (holds (covers (eastMargin s) (segment s e) x)) [ true ↦ Covering | false ↦ Beyond ]
+            ]
+      ]
+
+  -- the entries from lo to before hi are probed in the middle, rounded down, within so many probes; each look is one probe
   abbrev pub probe : ℕ → ℕ → ℕ → ℕ → Probed
   probe zero lo hi probes = missing
   probe (suc fuel) lo hi probes =
       elim (ltb lo hi) [
         | false ↦ missing
         | true ↦
-            elim (breaks w (entrySound (w .entry ((lo + hi) / 2)))) [
-              | true ↦ missing
-              | false ↦
-                  elim (ltb x (segment s (w .entry ((lo + hi) / 2)) .xw)) [
-                    | true ↦ probe fuel lo ((lo + hi) / 2) (suc probes)
-                    | false ↦
-                        elim (holds (covers (eastMargin s) (segment s (w .entry ((lo + hi) / 2))) x)) [
-                          | true ↦ covering (w .entry ((lo + hi) / 2)) (suc probes)
-                          | false ↦
-                              probe fuel ((lo + hi) / 2 + 1) hi (suc probes)
-                        ]
-                  ]
+            elim (look (w .entry ((lo + hi) / 2))) [
+              | Faulty ↦ missing
+              | West ↦ probe fuel lo ((lo + hi) / 2) (suc probes)
+              | Covering ↦ covered (w .entry ((lo + hi) / 2)) (suc probes)
+              | Beyond ↦ probe fuel ((lo + hi) / 2 + 1) hi (suc probes)
             ]
       ]
 
@@ -119,7 +126,7 @@ module _ (s : Sheet) (w : LookUps) (x y : ℕ) where
       elim (breaks w (startsSound (d .k))) [
         | true ↦ damaged
         | false ↦
-            elim (probe (w .start (d .k + 1)) (w .start (d .k)) (w .start (d .k + 1)) (d .probes)) [ covering e probes ↦ examined d e probes | missing ↦ damaged ]
+            elim (probe (w .start (d .k + 1)) (w .start (d .k)) (w .start (d .k + 1)) (d .probes)) [ covered e probes ↦ examined d e probes | missing ↦ damaged ]
       ]
 
   -- k goes to a son

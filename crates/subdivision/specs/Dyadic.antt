@@ -1,5 +1,5 @@
 -- Bit lengths, top bits and lca: document 01, "What a sheet is" (its last sentence) and "Index and descent".
-use mathlib.Core.Bool.{Bool, true, false}
+use mathlib.Core.Bool.{true, false}
 use Prim.Native.Nat.{ℕ, zero, suc, _+_, _*_, _/_, _%_}
 use lib.Dec.{leb, eqb}
 

@@ -1,7 +1,7 @@
 -- Bounded formulas: each rule of document 01 is written once, as a formula, and read two ways. `holds` computes it, and
 -- `Means` is the statement that it makes, in the library's own symbols. `Decide.antt` proves that the first decides the second.
 use mathlib.Core.Path.{_≡_}
-use mathlib.Core.Bool.{Bool, true, false, not, _&&_, _||_}
+use mathlib.Core.Bool.{Bool, true, false, not}
 use mathlib.Core.Logic.{_⊎_}
 use Prim.Native.Nat.{ℕ, zero, suc, _<_, _≤_}
 use lib.Dec.{leb, ltb, eqb}

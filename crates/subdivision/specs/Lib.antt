@@ -17,3 +17,4 @@ pub mod Descent
 pub mod Calls
 pub mod Answers
 pub mod WorkedTable
+pub mod Slips

@@ -1,5 +1,5 @@
 -- Covering, heights on a line, the side of a point, and two edges in conflict: document 01, "The plain reading of a point" and rule 4.
-use mathlib.Core.Bool.{Bool, true, false}
+use mathlib.Core.Bool.{true, false}
 use Prim.Native.Nat.{ℕ, _+_, _*_, _-_, min, max}
 use lib.Dec.{ltb}
 use Rattle.subdivision.specs.declared.Segment.{Segment}

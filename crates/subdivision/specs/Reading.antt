@@ -1,11 +1,11 @@
 -- The plain reading of a point, and the three readings that agree with it: document 01, "The plain reading of a point". Points are shifted.
-use mathlib.Core.Bool.{Bool, true, false}
+use mathlib.Core.Bool.{true, false}
 use Prim.Native.Nat.{ℕ, _+_, _*_, _-_}
 use lib.Dec.{ltb}
 use lib.ListN.{getD}
 use Rattle.subdivision.specs.declared.Answer.{Answer}
 use Rattle.subdivision.specs.declared.Answer.the-variants.{Vertex, Edge, Zone}
-use Rattle.subdivision.specs.Formula.{Formula, isLess, isAtMost, isEqual, both, holds}
+use Rattle.subdivision.specs.Formula.{Formula, isAtMost, isEqual, both, holds}
 use Rattle.subdivision.specs.Lowest.{lowest}
 use Rattle.subdivision.specs.Sheet.{Sheet, westMargin, eastMargin, vertexCount, edgeCount, zoneCount, xOf, yOf, aboveOf, belowOf, segment}
 use Rattle.subdivision.specs.Lines.{covers, coversWest, isAbove, isBelow, isOn}

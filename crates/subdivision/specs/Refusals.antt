@@ -1,6 +1,6 @@
 -- Why a sheet is refused: document 01, "Why the desk refuses", lines 1 to 13 of its table.
-use mathlib.Core.Bool.{Bool, true, false, not}
-use mathlib.Core.List.{List, [], _∷_, _++_}
+use mathlib.Core.Bool.{true, false, not}
+use mathlib.Core.List.{List, [], _∷_}
 use Prim.Native.Nat.{ℕ, _+_, _*_, _%_}
 use lib.ListN.{length}
 use Rattle.subdivision.specs.declared.Verdict.{Verdict}
@@ -9,8 +9,8 @@ use Rattle.subdivision.specs.Limits.{maxVertices, maxEdges, maxZones}
 use Rattle.subdivision.specs.Formula.{Formula, isLess, isAtMost, isEqual, both, notSo, everyBelow, holds}
 use Rattle.subdivision.specs.Lowest.{lowest}
 use Rattle.subdivision.specs.Sheet.{Sheet, westMargin, eastMargin, vertexCount, edgeCount, zoneCount}
-use Rattle.subdivision.specs.Rules.{inRange, vertexInside, vertexNew, edgeNames, edgeRuns, edgeParts, vertexRegular, edgeClear, namesAgree, zoneNamed, rule1, rule2, rule3, rule4, rule5, rule6}
-use Rattle.subdivision.specs.ZoneLine.{Rule7, rule7, aboveCircle}
+use Rattle.subdivision.specs.Rules.{inRange, vertexInside, vertexNew, edgeNames, edgeRuns, edgeParts, vertexRegular, edgeClear, namesAgree, zoneNamed}
+use Rattle.subdivision.specs.ZoneLine.{rule7, aboveCircle}
 
 -- a line of the table: the number, what holds unless it is given, and the clause that its named item breaks, of so many items
 pub record Refusal : Type 0 where

@@ -15,7 +15,7 @@ use Rattle.subdivision.specs.ZoneLine.{nextZone, zoneLine}
 use Rattle.subdivision.specs.Reading.{firstZone, zoneBeneath, plainReading}
 use Rattle.subdivision.specs.Index.{put, placeOf, zoneAt, chainOf, eastward, chain, startOf, entryAt, indexWords}
 use Rattle.subdivision.specs.Descent.{descent, publishedDescent, indexDescent}
-use Rattle.subdivision.specs.Calls.{Opened, Searched, opening, reading, searching, searchEnded}
+use Rattle.subdivision.specs.Calls.{Searched, opening, reading, searching, searchEnded}
 
 -- the lens sheet: W = 0, E = 4, four vertices, four edges, n = 3
 unfoldable pub lens : Sheet

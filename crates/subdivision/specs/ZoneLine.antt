@@ -1,10 +1,10 @@
 -- Rule 7 of document 01: the line of zones; and the circles that refusal 13 speaks of.
 use mathlib.Core.Path.{_≡_}
-use mathlib.Core.Bool.{Bool, true, false}
+use mathlib.Core.Bool.{true, false}
 use mathlib.Core.List.{List, [], _∷_, _++_}
 use Prim.Native.Nat.{ℕ, zero, suc, _<_}
 use lib.Dec.{ltb, eqb}
-use lib.ListN.{length, getD}
+use lib.ListN.{length}
 use Rattle.subdivision.specs.Formula.{Formula, isLess, isEqual, both, either, implies, notSo, everyBelow, someBelow, holds}
 use Rattle.subdivision.specs.Lowest.{lowest}
 use Rattle.subdivision.specs.Sheet.{Sheet, edgeCount, zoneCount, aboveOf, belowOf}

@@ -30,6 +30,18 @@ pub enum Side {
     Above,
 }
 
+// What a probe sees at an entry of a chain, against an abscissa.
+pub enum Look {
+    // The entry is no edge, or its record is at fault.
+    Faulty,
+    // The abscissa is west of the edge.
+    West,
+    // The edge covers the abscissa.
+    Covering,
+    // The abscissa is beyond the part that the edge covers.
+    Beyond,
+}
+
 // An edge with its ends: the numbers of its two vertices, and their coordinates, shifted.
 pub struct Segment {
     pub west: u32,

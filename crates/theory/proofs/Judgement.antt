@@ -1,18 +1,17 @@
 -- The judgement of the tables against the written refusals: when it passes a sheet, and which refusal it gives.
-use mathlib.Core.Path.{_≡_, refl, sym, ap, _∙_}
+use mathlib.Core.Path.{_≡_, refl, ap}
 use mathlib.Core.Bool.{Bool, true, false, not}
 use mathlib.Core.List.{List, [], _∷_, _++_}
-use mathlib.Core.Logic.{⊎-elim, _↔_}
+use mathlib.Core.Logic.{_↔_}
 use Prim.Native.Nat.{ℕ, _<_}
-use native.Mathlib.Nat.{eq-or-lt-of-le}
 use native.Mathlib.Omega.{arith}
 use borrow.Author.Tests.{not-true, not-false}
 use Rattle.subdivision.specs.declared.Verdict.{Verdict}
 use Rattle.subdivision.specs.Formula.{Formula, everyBelow, holds, Means}
-use Rattle.subdivision.specs.Sheet.{Sheet, edgeCount, zoneCount, aboveOf, belowOf}
+use Rattle.subdivision.specs.Sheet.{Sheet}
 use Rattle.subdivision.specs.Refusals.{Refusal, names, forEach, judged, limitRefusals, ruleRefusals}
 use Rattle.subdivision.specs.Accepted.{Accepted}
-use Rattle.theory.proofs.Decide.{means, held, denies, fails, broken-item, true-or-false}
+use Rattle.theory.proofs.Decide.{means, held, denies, fails, broken-item}
 use Rattle.theory.proofs.Lowest.{lowest-before, lowest-passes, lowest-at-most}
 use Rattle.theory.proofs.ZoneLine.{line-decides}
 

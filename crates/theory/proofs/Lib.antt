@@ -3,6 +3,7 @@ pub mod Counting
 pub mod Decide
 pub mod Dyadic
 pub mod Heights
+pub mod Index
 pub mod Judgement
 pub mod Lowest
 pub mod Merge

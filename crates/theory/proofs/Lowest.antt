@@ -1,13 +1,12 @@
 -- Laws of the lowest number that passes a test.
-use mathlib.Core.Path.{_≡_, refl, sym, _∙_, subst}
-use mathlib.Core.Bool.{Bool, true, false, not}
-use mathlib.Core.Logic.{_⊎_, inl, inr, ⊎-elim}
+use mathlib.Core.Path.{_≡_, refl}
+use mathlib.Core.Bool.{Bool, true, false}
+use mathlib.Core.Logic.{⊎-elim}
 use Prim.Native.Nat.{ℕ, zero, suc, _+_, _<_, _≤_}
 use native.Mathlib.Nat.{lt-irrefl, add-zero}
 use native.Mathlib.Omega.{arith}
-use Rattle.subdivision.specs.Formula.{Formula, everyBelow, holds, Means}
 use Rattle.subdivision.specs.Lowest.{lowestFrom, lowest}
-use Rattle.theory.proofs.Decide.{not-both, below-suc, fails, every-yes}
+use Rattle.theory.proofs.Decide.{not-both, below-suc}
 
 -- r is the lowest number below n that passes the test, or n where none does
 pub record IsLeast (test : ℕ → Bool) (n r : ℕ) : Type 0 where

@@ -1,9 +1,10 @@
 -- Laws of `tab`, the list of a function's values.
-use mathlib.Core.Path.{_≡_, ap}
+use mathlib.Core.Path.{_≡_, refl, ap}
 use mathlib.Core.List.{List, [], _∷_, _++_}
-use Prim.Native.Nat.{ℕ, zero, suc, _+_}
-use native.Mathlib.Nat.{add-zero, zero-add, add-suc, suc-add}
+use Prim.Native.Nat.{ℕ, zero, suc, _+_, _<_}
+use native.Mathlib.Nat.{add-zero, zero-add, add-suc, suc-add, le-of-suc-le-suc, not-suc-le-zero}
 use native.Mathlib.Numerals.{add-one}
+use lib.ListN.{length, getD}
 use Rattle.subdivision.specs.Lowest.{tab, tabFrom}
 
 module _ {A : Type 0} (f : ℕ → A) where
@@ -15,3 +16,21 @@ module _ {A : Type 0} (f : ℕ → A) where
   pub tab-more : (n : ℕ) → tab f (n + 1) ≡ tab f n ++ (f n ∷ [])
   unfolding tab
   tab-more n = rw (add-one n) (rw zero-add at (tab-from-more n zero))
+
+  length-tab-from : (n at : ℕ) → length (tabFrom f n at) ≡ n
+  length-tab-from zero at = refl
+  length-tab-from (suc n) at = ap suc (length-tab-from n (suc at))
+
+  pub length-tab : (n : ℕ) → length (tab f n) ≡ n
+  unfolding tab
+  length-tab n = length-tab-from n zero
+
+  getD-tab-from : (n at i : ℕ) (d : A) → i < n → getD (tabFrom f n at) i d ≡ f (at + i)
+  getD-tab-from zero at i d h = absurd (not-suc-le-zero h)
+  getD-tab-from (suc n) at zero d h = rw add-zero
+  getD-tab-from (suc n) at (suc i) d h = rw (add-suc, ← suc-add) (getD-tab-from n (suc at) i d (le-of-suc-le-suc h))
+
+  -- the value at a place of the list
+  pub getD-tab : (n i : ℕ) (d : A) → i < n → getD (tab f n) i d ≡ f i
+  unfolding tab
+  getD-tab n i d h = rw zero-add at (getD-tab-from n zero i d h)

@@ -1,19 +1,19 @@
 -- The line of rule 7: the line used places each zone once, each after its zones directly below, exactly when some line does.
-use mathlib.Core.Path.{_≡_, refl, sym, ap, _∙_, subst}
+use mathlib.Core.Path.{_≡_, refl, sym, ap, _∙_}
 use mathlib.Core.Bool.{Bool, true, false, not}
 use mathlib.Core.List.{List, [], _∷_, _++_}
 use mathlib.Core.Logic.{_⊎_, inl, inr, ⊎-elim, _↔_}
 use Prim.Native.Nat.{ℕ, zero, suc, _+_, _<_, _≤_, zero-le, suc-le-suc}
-use native.Mathlib.Nat.{le-refl, le-suc, lt-irrefl, not-suc-le-zero, le-of-suc-le-suc, suc-ne-zero, add-zero}
+use native.Mathlib.Nat.{le-refl, lt-irrefl, not-suc-le-zero, le-of-suc-le-suc, suc-ne-zero, add-zero}
 use native.Mathlib.Numerals.{add-one}
 use native.Mathlib.Omega.{arith}
 use lib.Dec.{ltb, eqb}
 use lib.ListN.{length, length-append}
-use borrow.Author.Tests.{eqb-true, eqb-false, eq-eqb, ne-eqb, lt-ltb, le-ltb, ltb-true, ltb-false}
-use Rattle.subdivision.specs.Formula.{Formula, isLess, isEqual, both, implies, notSo, everyBelow, holds, Means}
-use Rattle.subdivision.specs.Lowest.{lowest, countUnder}
+use borrow.Author.Tests.{eqb-true, eqb-false, eq-eqb, ne-eqb, lt-ltb, ltb-true}
+use Rattle.subdivision.specs.Formula.{Formula, isEqual, implies, notSo, everyBelow, holds, Means}
+use Rattle.subdivision.specs.Lowest.{countUnder}
 use Rattle.subdivision.specs.Sheet.{Sheet, edgeCount, zoneCount, aboveOf, belowOf}
-use Rattle.subdivision.specs.ZoneLine.{position, isIn, InLine, Rule7, isReady, nextZone, lengthened, lineTo, zoneLine, rule7}
+use Rattle.subdivision.specs.ZoneLine.{position, isIn, InLine, Rule7, isReady, nextZone, lengthened, lineTo, zoneLine}
 use Rattle.theory.proofs.Decide.{true-or-false, means, held, denies, fails, broken-item, broken-implies}
 use Rattle.theory.proofs.Lowest.{lowest-passes, lowest-at-most}
 use Rattle.theory.proofs.Counting.{count-all, count-none, count-some, count-less}

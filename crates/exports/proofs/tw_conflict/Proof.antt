@@ -1,5 +1,5 @@
 -- `exports::tw_conflict` meets its contract.
-use mathlib.Core.Path.{_≡_, ap, _∙_}
+use mathlib.Core.Path.{ap, _∙_}
 use borrow.Author.Needs.{needs}
 use Rattle.subdivision.specs.Formula.{holds}
 use Rattle.subdivision.specs.Lines.{conflict}

@@ -1,7 +1,7 @@
 //! Writes a repository in which the checker evaluates the definitions of document 01 on the outside vectors:
 //! each call of a small sheet becomes an equation between the definition and the vector's answer, closed by computation.
 //!
-//! `definitions VECTORS REPOSITORY`: VECTORS is the folder of base-*.txt, REPOSITORY is made anew.
+//! `evaluate VECTORS REPOSITORY`: VECTORS is the folder of base-*.txt, REPOSITORY is made anew.
 use std::fmt::Write as _;
 use std::{env, fs, path::Path};
 

@@ -1,0 +1,85 @@
+//! The proved functions as safe Rust, and a generator of numbers with a printed seed.
+
+mod exported {
+    #[link(name = "exports", kind = "static")]
+    extern "C" {
+        pub fn tw_bit_length(k: u32) -> u32;
+        pub fn tw_top_bit(k: u32) -> u32;
+        pub fn tw_lca(i: u32, j: u32) -> u32;
+        pub fn tw_sort(keys: *const u64, keys_len: usize, order: *mut u32, order_len: usize, scratch: *mut u32, scratch_len: usize) -> u32;
+        pub fn tw_covers(vertices: *const i32, vertices_len: usize, edges: *const u32, edges_len: usize, east: i32, e: u32, x: i32) -> u32;
+        pub fn tw_side(vertices: *const i32, vertices_len: usize, edges: *const u32, edges_len: usize, e: u32, x: i32, y: i32) -> i32;
+        pub fn tw_conflict(vertices: *const i32, vertices_len: usize, edges: *const u32, edges_len: usize, e: u32, f: u32) -> u32;
+    }
+}
+
+pub fn bit_length(k: u32) -> u32 {
+    unsafe { exported::tw_bit_length(k) }
+}
+
+pub fn top_bit(k: u32) -> u32 {
+    unsafe { exported::tw_top_bit(k) }
+}
+
+pub fn lca(i: u32, j: u32) -> u32 {
+    unsafe { exported::tw_lca(i, j) }
+}
+
+pub fn sort(keys: &[u64], order: &mut [u32], scratch: &mut [u32]) -> u32 {
+    unsafe { exported::tw_sort(keys.as_ptr(), keys.len(), order.as_mut_ptr(), order.len(), scratch.as_mut_ptr(), scratch.len()) }
+}
+
+pub fn covers(vertices: &[i32], edges: &[u32], east: i32, e: u32, x: i32) -> u32 {
+    unsafe { exported::tw_covers(vertices.as_ptr(), vertices.len(), edges.as_ptr(), edges.len(), east, e, x) }
+}
+
+pub fn side(vertices: &[i32], edges: &[u32], e: u32, x: i32, y: i32) -> i32 {
+    unsafe { exported::tw_side(vertices.as_ptr(), vertices.len(), edges.as_ptr(), edges.len(), e, x, y) }
+}
+
+pub fn conflict(vertices: &[i32], edges: &[u32], e: u32, f: u32) -> u32 {
+    unsafe { exported::tw_conflict(vertices.as_ptr(), vertices.len(), edges.as_ptr(), edges.len(), e, f) }
+}
+
+/// A small generator; the seed is `SEED` where that is set, and is printed.
+pub struct Random(u64);
+
+impl Random {
+    pub fn new(name: &str, seed: u64) -> Self {
+        let seed = std::env::var("SEED").ok().and_then(|s| s.parse().ok()).unwrap_or(seed);
+        println!("{name}: seed {seed}");
+        Random(seed.wrapping_mul(2).wrapping_add(1))
+    }
+
+    pub fn next(&mut self) -> u64 {
+        self.0 ^= self.0 << 13;
+        self.0 ^= self.0 >> 7;
+        self.0 ^= self.0 << 17;
+        self.0.wrapping_mul(0x2545_F491_4F6C_DD1D)
+    }
+
+    /// A number below `n`.
+    pub fn below(&mut self, n: u64) -> u64 {
+        (self.next() >> 11) % n
+    }
+
+    /// A number from `low` to `high`, both ends allowed.
+    pub fn between(&mut self, low: i64, high: i64) -> i64 {
+        low + self.below((high - low + 1) as u64) as i64
+    }
+}
+
+/// How many calls a random test makes: `CALLS` where that is set.
+pub fn calls(usual: usize) -> usize {
+    std::env::var("CALLS").ok().and_then(|s| s.parse().ok()).unwrap_or(usual)
+}
+
+/// Prints how often each case came, and fails where one came fewer than 50 times.
+pub fn enough(counts: &[(&str, usize)]) {
+    for (name, count) in counts {
+        println!("  {name}: {count}");
+    }
+    for (name, count) in counts {
+        assert!(*count >= 50, "{name} came {count} times");
+    }
+}
