@@ -2,16 +2,16 @@
 use mathlib.Core.Path.{_≡_, refl}
 use mathlib.Core.List.{List, [], _∷_}
 use Prim.Native.Nat.{ℕ}
-use lib.IntN.{pos, negsuc}
+use lib.IntN.{ℤ, pos, negsuc}
 use lib.ListN.{replicate}
 use Rattle.subdivision.specs.declared.Answer.the-variants.{Zone}
 use Rattle.subdivision.specs.declared.Verdict.the-variants.{Passed, Refused}
 use Rattle.subdivision.specs.Lowest.{lowest, tab}
 use Rattle.subdivision.specs.Dyadic.{bits, topBit, lowBit, lca}
 use Rattle.subdivision.specs.Order.{inOrder}
-use Rattle.subdivision.specs.Sheet.{Sheet}
+use Rattle.subdivision.specs.Sheet.{Sheet, shifted}
 use Rattle.subdivision.specs.ZoneLine.{nextZone, zoneLine}
-use Rattle.subdivision.specs.Reading.{firstZone, zoneBeneath, plainReading}
+use Rattle.subdivision.specs.Reading.{firstZone, lastZone, zoneBeneath, zoneOverhead, zoneBeneathWest, zoneOverheadWest, plainReading}
 use Rattle.subdivision.specs.Index.{placeOf, zoneAt, chainOf, eastward, chain, startOf, indexWords}
 use Rattle.subdivision.specs.Descent.{descent, indexDescent}
 use Rattle.subdivision.specs.Calls.{opening, reading, searching}
@@ -35,8 +35,14 @@ unfoldable pub flatEdge : Sheet
 flatEdge =
     record { west = pos 0; east = pos 3; vertices = pos 0 ∷ pos 0 ∷ pos 3 ∷ pos 1 ∷ []; edges = 0 ∷ 1 ∷ 1 ∷ 0 ∷ []; zones = 2 }
 
+-- the four readings of a point: beneath, overhead, and the two western ones
+unfoldable pub fourReadings : Sheet → ℤ → ℤ → List ℕ
+fourReadings s x y =
+    zoneBeneath s (shifted x) (shifted y) ∷ zoneOverhead s (shifted x) (shifted y) ∷ zoneBeneathWest s (shifted x) (shifted y) ∷ zoneOverheadWest s (shifted x) (shifted y) ∷ []
+
 -- in turn: the terraces are accepted with their index; nothing beneath is the first zone of the line and not zone 0; at a vertex abscissa the edge to its east covers,
--- and a chain once passed is not examined again, with every look counted; a name changed where two edges end on one abscissa is refused at that vertex; a height between two whole numbers is on neither side by rounding
+-- and a chain once passed is not examined again, with every look counted; a name changed where two edges end on one abscissa is refused at that vertex;
+-- a height between two whole numbers is on neither side by rounding; the four readings agree on the terraces, and differ on the sheet with the changed name
 pub slips-told-apart :
     (a b c : ℕ) →
     (opening terraces (replicate 22 a) ≡ record { verdict = Passed; index = terraceIndex })
@@ -44,5 +50,7 @@ pub slips-told-apart :
     × (searching terraces terraceIndex (pos 2) (pos 25) (a ∷ b ∷ c ∷ []) ≡ record { found = record { answer = Zone 1; examined = 2; probes = 4 }; trail = 5 ∷ 8 ∷ c ∷ [] })
     × (opening hiddenName (replicate 12 a) ≡ record { verdict = Refused 11 1; index = replicate 12 a })
     × (reading flatEdge (pos 2) (pos 0) ∷ reading flatEdge (pos 2) (pos 1) ∷ [] ≡ Zone 0 ∷ Zone 1 ∷ [])
-unfolding terraces terraceIndex hiddenName flatEdge opening reading searching descent indexDescent placeOf zoneAt chainOf eastward chain startOf indexWords firstZone zoneBeneath plainReading nextZone zoneLine inOrder bits topBit lowBit lca lowest tab
-slips-told-apart a b c = (refl, refl, refl, refl, refl)
+    × (fourReadings terraces (pos 1) (pos 15) ≡ 3 ∷ 3 ∷ 3 ∷ 3 ∷ [])
+    × (fourReadings hiddenName (pos 1) (pos 5) ≡ 2 ∷ 2 ∷ 1 ∷ 2 ∷ [])
+unfolding terraces terraceIndex hiddenName flatEdge fourReadings opening reading searching descent indexDescent placeOf zoneAt chainOf eastward chain startOf indexWords firstZone lastZone zoneBeneath zoneOverhead zoneBeneathWest zoneOverheadWest plainReading nextZone zoneLine inOrder bits topBit lowBit lca lowest tab
+slips-told-apart a b c = (refl, refl, refl, refl, refl, refl, refl)
