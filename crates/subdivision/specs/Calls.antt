@@ -13,7 +13,8 @@ use Rattle.subdivision.specs.Dyadic.{bits}
 use Rattle.subdivision.specs.Sheet.{Sheet, zoneCount, shifted}
 use Rattle.subdivision.specs.Refusals.{judged, limitRefusals, roomRefusal, ruleRefusals}
 use Rattle.subdivision.specs.Reading.{onSheet, plainReading}
-use Rattle.subdivision.specs.Index.{put, indexWords}
+use Rattle.subdivision.specs.Index.{indexWords}
+use Rattle.subdivision.specs.Lists.{put}
 use Rattle.subdivision.specs.Descent.{Descent, Turn, onward, answered, damaged, indexDescent}
 
 -- what a call of opening leaves: its verdict and the lent index

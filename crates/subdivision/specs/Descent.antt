@@ -15,7 +15,8 @@ use Rattle.subdivision.specs.Sheet.{Sheet, eastMargin, edgeCount, zoneCo
 use Rattle.subdivision.specs.Lines.{covers, sideAt}
 use Rattle.subdivision.specs.Rules.{vertexInside, edgeNames, edgeRuns}
 use Rattle.subdivision.specs.Reading.{isVertex}
-use Rattle.subdivision.specs.Index.{placeWord, zoneWord, startWord, entryWord, placeOf, zoneAt, startOf, entryAt}
+use Rattle.subdivision.specs.Index.{placeOf, zoneAt, startOf, entryAt}
+use Rattle.subdivision.specs.Layout.{placeWord, zoneWord, startWord, entryWord}
 
 -- the look-ups that a descent reads, and whether what they give is judged as refusal 22 says
 pub record LookUps : Type 0 where

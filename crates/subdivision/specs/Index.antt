@@ -1,39 +1,13 @@
--- The index: document 01, "Index and descent", first paragraph. Its offsets have their one home here.
-use mathlib.Core.Bool.{Bool, true, false}
-use mathlib.Core.List.{List, [], _∷_, _++_}
-use Prim.Native.Nat.{ℕ, zero, suc, _+_, _*_}
+-- The index: document 01, "Index and descent", first paragraph.
+use mathlib.Core.List.{List, [], _++_}
+use Prim.Native.Nat.{ℕ, zero, suc}
 use lib.Dec.{eqb}
-use lib.ListN.{length, getD, drop}
-use Rattle.subdivision.specs.Lowest.{tab}
+use lib.ListN.{length, getD}
+use Rattle.subdivision.specs.Lists.{tab, keep}
 use Rattle.subdivision.specs.Dyadic.{lca}
 use Rattle.subdivision.specs.Order.{inOrder}
 use Rattle.subdivision.specs.Sheet.{Sheet, edgeCount, zoneCount, xOf, westOf, aboveOf, belowOf}
 use Rattle.subdivision.specs.ZoneLine.{position, zoneLine}
-
--- the word that holds the place of zone z
-abbrev pub placeWord : ℕ → ℕ → ℕ
-placeWord n z = z
-
--- the word that holds the zone at place p
-abbrev pub zoneWord : ℕ → ℕ → ℕ
-zoneWord n p = n + p
-
--- the word that holds the start of chain k
-abbrev pub startWord : ℕ → ℕ → ℕ
-startWord n k = 2 * n + k
-
--- the word that holds entry t of the chains
-abbrev pub entryWord : ℕ → ℕ → ℕ
-entryWord n t = 3 * n + 1 + t
-
--- words written over the front of a lent list; what is past them stays
-abbrev pub put : List ℕ → List ℕ → List ℕ
-put words lent = words ++ drop (length words) lent
-
--- the entries of a list that pass a test, in its order
-abbrev pub keep : (ℕ → Bool) → List ℕ → List ℕ
-keep test [] = []
-keep test (x ∷ xs) = elim (test x) [ true ↦ x ∷ keep test xs | false ↦ keep test xs ]
 
 module _ (s : Sheet) where
   -- the place of zone z in the line of rule 7

@@ -2,6 +2,7 @@
 pub mod Limits
 pub mod Formula
 pub mod Lowest
+pub mod Lists
 pub mod Dyadic
 pub mod Order
 pub mod Sheet
@@ -9,6 +10,7 @@ pub mod Lines
 pub mod Neighbours
 pub mod Rules
 pub mod ZoneLine
+pub mod Layout
 pub mod Refusals
 pub mod Accepted
 pub mod Reading

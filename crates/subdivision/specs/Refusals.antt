@@ -1,15 +1,16 @@
 -- Why a sheet is refused: document 01, "Why the desk refuses", lines 1 to 13 of its table.
 use mathlib.Core.Bool.{true, false, not}
 use mathlib.Core.List.{List, [], _∷_}
-use Prim.Native.Nat.{ℕ, _+_, _*_, _%_}
+use Prim.Native.Nat.{ℕ, _%_}
 use lib.ListN.{length}
 use Rattle.subdivision.specs.declared.Verdict.{Verdict}
 use Rattle.subdivision.specs.declared.Verdict.the-variants.{Passed, Refused}
 use Rattle.subdivision.specs.Limits.{maxVertices, maxEdges, maxZones}
 use Rattle.subdivision.specs.Formula.{Formula, isLess, isAtMost, isEqual, both, notSo, everyBelow, holds}
 use Rattle.subdivision.specs.Lowest.{lowest}
+use Rattle.subdivision.specs.Layout.{indexNeed}
 use Rattle.subdivision.specs.Sheet.{Sheet, westMargin, eastMargin, vertexCount, edgeCount, zoneCount}
-use Rattle.subdivision.specs.Rules.{inRange, vertexInside, vertexNew, edgeNames, edgeRuns, edgeParts, vertexRegular, edgeClear, namesAgree, zoneNamed}
+use Rattle.subdivision.specs.Rules.{inRange, vertexInside, vertexNew, edgeNames, edgeRuns, zonesDiffer, vertexRegular, edgeClear, namesAgree, zoneNamed}
 use Rattle.subdivision.specs.ZoneLine.{rule7, aboveCircle}
 
 -- a line of the table: the number, what holds unless it is given, and the clause that its named item breaks, of so many items
@@ -35,10 +36,6 @@ forEach number items clause = record { number = number; kept = everyBelow items 
 abbrev pub judged : List Refusal → Verdict
 judged [] = Passed
 judged (r ∷ rs) = elim (holds (r .kept)) [ true ↦ judged rs | false ↦ Refused (r .number) (names r) ]
-
--- the need 3n + m + 1 of an index
-abbrev pub indexNeed : ℕ → ℕ → ℕ
-indexNeed n m = 3 * n + m + 1
 
 module _ (s : Sheet) where
   -- refusal 1: the tables are whole records, and no count is beyond its limit
@@ -71,7 +68,7 @@ module _ (s : Sheet) where
       ∷ forEach 5 (vertexCount s) (vertexNew s)
       ∷ forEach 6 (edgeCount s) (edgeNames s)
       ∷ forEach 7 (edgeCount s) (edgeRuns s)
-      ∷ forEach 8 (edgeCount s) (edgeParts s)
+      ∷ forEach 8 (edgeCount s) (zonesDiffer s)
       ∷ forEach 9 (vertexCount s) (vertexRegular s)
       ∷ forEach 10 (edgeCount s) (edgeClear s)
       ∷ forEach 11 (vertexCount s) (namesAgree s)

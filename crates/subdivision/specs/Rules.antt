@@ -32,8 +32,8 @@ module _ (s : Sheet) where
   edgeRuns e = isLess (xOf s (westOf s e)) (xOf s (eastOf s e))
 
   -- rule 2: edge e has different zones above and below
-  abbrev pub edgeParts : ℕ → Formula
-  edgeParts e = notSo (isEqual (aboveOf s e) (belowOf s e))
+  abbrev pub zonesDiffer : ℕ → Formula
+  zonesDiffer e = notSo (isEqual (aboveOf s e) (belowOf s e))
 
   -- edge e is a western edge of vertex v: it ends there
   abbrev pub westernEdge : ℕ → ℕ → Formula
@@ -124,7 +124,7 @@ module _ (s : Sheet) where
   abbrev pub rule2 : Formula
   rule2 =
       both (everyBelow (edgeCount s) edgeNames)
-      (both (everyBelow (edgeCount s) edgeRuns) (everyBelow (edgeCount s) edgeParts))
+      (both (everyBelow (edgeCount s) edgeRuns) (everyBelow (edgeCount s) zonesDiffer))
 
   -- rule 3: every vertex is regular
   abbrev pub rule3 : Formula

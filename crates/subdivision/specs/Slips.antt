@@ -6,7 +6,8 @@ use lib.IntN.{ℤ, pos, negsuc}
 use lib.ListN.{replicate}
 use Rattle.subdivision.specs.declared.Answer.the-variants.{Zone}
 use Rattle.subdivision.specs.declared.Verdict.the-variants.{Passed, Refused}
-use Rattle.subdivision.specs.Lowest.{lowest, tab}
+use Rattle.subdivision.specs.Lowest.{lowest}
+use Rattle.subdivision.specs.Lists.{tab}
 use Rattle.subdivision.specs.Dyadic.{bits, topBit, lowBit, lca}
 use Rattle.subdivision.specs.Order.{inOrder}
 use Rattle.subdivision.specs.Sheet.{Sheet, shifted}

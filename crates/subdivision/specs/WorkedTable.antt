@@ -7,13 +7,15 @@ use lib.ListN.{length, replicate}
 use Rattle.subdivision.specs.declared.Answer.{Answer}
 use Rattle.subdivision.specs.declared.Answer.the-variants.{Vertex, Edge, Zone}
 use Rattle.subdivision.specs.declared.Verdict.the-variants.{Passed}
-use Rattle.subdivision.specs.Lowest.{lowest, tab}
+use Rattle.subdivision.specs.Lowest.{lowest}
+use Rattle.subdivision.specs.Lists.{tab}
 use Rattle.subdivision.specs.Dyadic.{bits, topBit, lowBit, lca}
 use Rattle.subdivision.specs.Order.{inOrder}
 use Rattle.subdivision.specs.Sheet.{Sheet, shifted}
 use Rattle.subdivision.specs.ZoneLine.{nextZone, zoneLine}
 use Rattle.subdivision.specs.Reading.{firstZone, zoneBeneath, plainReading}
-use Rattle.subdivision.specs.Index.{put, placeOf, zoneAt, chainOf, eastward, chain, startOf, entryAt, indexWords}
+use Rattle.subdivision.specs.Index.{placeOf, zoneAt, chainOf, eastward, chain, startOf, entryAt, indexWords}
+use Rattle.subdivision.specs.Lists.{put}
 use Rattle.subdivision.specs.Descent.{descent, publishedDescent, indexDescent}
 use Rattle.subdivision.specs.Calls.{Searched, opening, reading, searching, searchEnded}
 

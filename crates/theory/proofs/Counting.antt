@@ -1,12 +1,16 @@
--- Laws of how many numbers below a count pass a test.
+-- How many numbers below a count pass a test.
 use mathlib.Core.Path.{_≡_, refl, sym, ap, _∙_}
 use mathlib.Core.Bool.{Bool, true, false}
 use mathlib.Core.Logic.{⊎-elim}
 use Prim.Native.Nat.{ℕ, zero, suc, _<_}
 use native.Mathlib.Nat.{not-suc-le-zero, lt-suc-self, suc-ne-zero, ne-of-lt}
 use native.Mathlib.Omega.{arith}
-use Rattle.subdivision.specs.Lowest.{countUnder}
 use Rattle.theory.proofs.Decide.{below-suc}
+
+-- how many numbers below the count pass the test
+abbrev pub countUnder : ℕ → (ℕ → Bool) → ℕ
+countUnder zero test = zero
+countUnder (suc n) test = elim (test n) [ true ↦ suc (countUnder n test) | false ↦ countUnder n test ]
 
 -- the test passes at every number: the count is the whole count
 pub count-all : (n : ℕ) (test : ℕ → Bool) → ((k : ℕ) → k < n → test k ≡ true) → countUnder n test ≡ n

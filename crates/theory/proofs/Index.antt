@@ -5,10 +5,11 @@ use Prim.Native.Nat.{ℕ, suc, _+_, _*_, _<_, _≤_}
 use native.Mathlib.Omega.{arith}
 use lib.ListN.{getD, List·getD-append}
 use lib.Seq.{getD-append-add}
-use Rattle.subdivision.specs.Lowest.{tab}
+use Rattle.subdivision.specs.Lists.{tab}
 use Rattle.subdivision.specs.Sheet.{Sheet, zoneCount}
-use Rattle.subdivision.specs.Index.{placeWord, zoneWord, startWord, entryWord, placeOf, zoneAt, startOf, entryAt, indexWords}
-use Rattle.theory.proofs.Tab.{length-tab, getD-tab}
+use Rattle.subdivision.specs.Index.{placeOf, zoneAt, startOf, entryAt, indexWords}
+use Rattle.subdivision.specs.Layout.{placeWord, zoneWord, startWord, entryWord}
+use Rattle.theory.proofs.Lists.{length-tab, getD-tab}
 
 -- past a list of values, what follows is read
 getD-past-tab : (f : ℕ → ℕ) (n : ℕ) (rest : List ℕ) (i : ℕ) → getD (tab f n ++ rest) (n + i) 0 ≡ getD rest i 0

@@ -5,11 +5,11 @@ pub mod Dyadic
 pub mod Heights
 pub mod Index
 pub mod Judgement
+pub mod Lists
 pub mod Lowest
 pub mod Merge
 pub mod Order
 pub mod Shift
 pub mod Sides
-pub mod Tab
 pub mod Tables
 pub mod ZoneLine

@@ -11,12 +11,11 @@ use lib.Dec.{ltb, eqb}
 use lib.ListN.{length, length-append}
 use borrow.Author.Tests.{eqb-true, eqb-false, eq-eqb, ne-eqb, lt-ltb, ltb-true}
 use Rattle.subdivision.specs.Formula.{Formula, isEqual, implies, notSo, everyBelow, holds, Means}
-use Rattle.subdivision.specs.Lowest.{countUnder}
 use Rattle.subdivision.specs.Sheet.{Sheet, edgeCount, zoneCount, aboveOf, belowOf}
 use Rattle.subdivision.specs.ZoneLine.{position, isIn, InLine, Rule7, isReady, nextZone, lengthened, lineTo, zoneLine}
 use Rattle.theory.proofs.Decide.{true-or-false, means, held, denies, fails, broken-item, broken-implies}
 use Rattle.theory.proofs.Lowest.{lowest-passes, lowest-at-most}
-use Rattle.theory.proofs.Counting.{count-all, count-none, count-some, count-less}
+use Rattle.theory.proofs.Counting.{countUnder, count-all, count-none, count-some, count-less}
 
 -- ---- places in a list
 

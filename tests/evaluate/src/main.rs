@@ -18,7 +18,8 @@ use lib.IntN.{pos, negsuc}
 use lib.ListN.{replicate}
 use Rattle.subdivision.specs.declared.Answer.{Answer}
 use Rattle.subdivision.specs.declared.Verdict.{Verdict}
-use Rattle.subdivision.specs.Lowest.{lowest, tab}
+use Rattle.subdivision.specs.Lowest.{lowest}
+use Rattle.subdivision.specs.Lists.{tab}
 use Rattle.subdivision.specs.Dyadic.{bits, topBit, lowBit, lca}
 use Rattle.subdivision.specs.Order.{inOrder}
 use Rattle.subdivision.specs.Sheet.{Sheet}

@@ -1,11 +1,11 @@
--- Laws of `tab`, the list of a function's values.
+-- Laws of lists: a function's values.
 use mathlib.Core.Path.{_≡_, refl, ap}
 use mathlib.Core.List.{List, [], _∷_, _++_}
 use Prim.Native.Nat.{ℕ, zero, suc, _+_, _<_}
 use native.Mathlib.Nat.{add-zero, zero-add, add-suc, suc-add, le-of-suc-le-suc, not-suc-le-zero}
 use native.Mathlib.Numerals.{add-one}
 use lib.ListN.{length, getD}
-use Rattle.subdivision.specs.Lowest.{tab, tabFrom}
+use Rattle.subdivision.specs.Lists.{tab, tabFrom}
 
 module _ {A : Type 0} (f : ℕ → A) where
   tab-from-more : (n at : ℕ) → tabFrom f (suc n) at ≡ tabFrom f n at ++ (f (at + n) ∷ [])
