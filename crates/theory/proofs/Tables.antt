@@ -1,13 +1,14 @@
--- No default is read of an edge or a vertex that a sheet has.
+-- No default is read: of an edge or a vertex that a sheet has, and of an index with room at the zones, places, chains and entries that there are.
 use mathlib.Core.Path.{_≡_, refl}
 use mathlib.Core.List.{List, [], _∷_}
-use Prim.Native.Nat.{ℕ, zero, suc, _+_, _*_, _<_}
+use Prim.Native.Nat.{ℕ, zero, suc, _+_, _*_, _<_, _≤_}
 use native.Mathlib.Nat.{le-of-suc-le-suc, not-suc-le-zero}
 use native.Mathlib.Omega.{arith}
 use lib.IntN.{ℤ, pos}
 use lib.ListN.{length, getD}
 use Rattle.subdivision.specs.Formula.{Means}
 use Rattle.subdivision.specs.Sheet.{Sheet, edgeCount, vertexCount, westOf, eastOf}
+use Rattle.subdivision.specs.Layout.{indexNeed, placeWord, zoneWord, startWord, entryWord}
 use Rattle.subdivision.specs.Rules.{edgeNames}
 
 -- inside a list every default reads the same
@@ -15,6 +16,14 @@ pub inside-reads-no-default : {A : Type 0} (l : List A) (i : ℕ) (d e : A) → 
 inside-reads-no-default [] i d e h = absurd (not-suc-le-zero h)
 inside-reads-no-default (x ∷ xs) zero d e h = refl
 inside-reads-no-default (x ∷ xs) (suc i) d e h = inside-reads-no-default xs i d e (le-of-suc-le-suc h)
+
+-- an index with room holds the place of every zone, the zone at every place, n + 1 starts and m entries
+pub index-word-inside : (n m : ℕ)
+    → ((z : ℕ) → z < n → placeWord n z < indexNeed n m)
+    × ((p : ℕ) → p < n → zoneWord n p < indexNeed n m)
+    × ((k : ℕ) → k ≤ n → startWord n k < indexNeed n m)
+    × ((t : ℕ) → t < m → entryWord n t < indexNeed n m)
+index-word-inside n m = (λ z h. omega arith, λ p h. omega arith, λ k h. omega arith, λ t h. omega arith)
 
 module _ (s : Sheet) where
   pub edge-word-inside : (e k : ℕ) → e < edgeCount s → k < 4 → 4 * e + k < length (s .edges)
