@@ -2,7 +2,7 @@
 // and then a length. What a caller owes (valid pointers, no overlap) no proof covers.
 use subdivision::Side;
 ghost use mathlib.Core.Path.{_≡_};
-ghost use lib.ListN.{length};
+ghost use lib.ListN.{length, drop};
 ghost use Rattle.subdivision.specs.Formula.{holds};
 ghost use Rattle.subdivision.specs.Dyadic.{bits, topBit, lca};
 ghost use Rattle.subdivision.specs.Sheet.{shifted, segmentOf};
@@ -41,12 +41,14 @@ fn flag(b: bool) -> u32
     if b { 1 } else { 0 }
 }
 
-// Sorts the numbers of `order`'s places by key, then number: 1; or 0 and nothing written to `order`,
-// where `scratch` is shorter than `order`.
+// Sorts the numbers of `order`'s places by key, then number: 1, with anything left in as many places
+// of `scratch`; or 0 and nothing written, where `scratch` is shorter or the numbers do not fit 32 bits.
 #[no_mangle]
 pub extern "C" fn tw_sort(keys: &[u64], order: &mut [u32], scratch: &mut [u32]) -> u32
     ensures answer { λ r. ⌜ r ≡ flag (sortFits (length (now (order .entry))) (length (now (scratch .entry)))) ⌝ }
     ensures written { λ _. ⌜ now (order .exit) ≡ sortLeaves (now (keys .entry)) (now (order .entry)) (length (now (scratch .entry))) ⌝ }
+    ensures refused { λ r. ⌜ (r ≡ 0 → now (scratch .exit) ≡ now (scratch .entry)) ⌝ }
+    ensures spared { λ _. ⌜ drop (length (now (order .entry))) (now (scratch .exit)) ≡ drop (length (now (order .entry))) (now (scratch .entry)) ⌝ }
 {
     if scratch.len() < order.len() {
         return 0;

@@ -3,7 +3,6 @@ use mathlib.Core.Path.{_≡_, refl}
 use mathlib.Core.List.{List, [], _∷_}
 use Prim.Native.Nat.{ℕ}
 use lib.IntN.{ℤ, pos, negsuc}
-use lib.ListN.{replicate}
 use Rattle.subdivision.specs.declared.Answer.the-variants.{Zone}
 use Rattle.subdivision.specs.declared.Verdict.the-variants.{Passed, Refused}
 use Rattle.subdivision.specs.Lowest.{lowest}
@@ -41,17 +40,21 @@ unfoldable pub fourReadings : Sheet → ℤ → ℤ → List ℕ
 fourReadings s x y =
     zoneBeneath s (shifted x) (shifted y) ∷ zoneOverhead s (shifted x) (shifted y) ∷ zoneBeneathWest s (shifted x) (shifted y) ∷ zoneOverheadWest s (shifted x) (shifted y) ∷ []
 
--- in turn: the terraces are accepted with their index; nothing beneath is the first zone of the line and not zone 0; at a vertex abscissa the edge to its east covers,
--- and a chain once passed is not examined again, with every look counted; a name changed where two edges end on one abscissa is refused at that vertex;
--- a height between two whole numbers is on neither side by rounding; the four readings agree on the terraces, and differ on the sheet with the changed name
+-- the slips, whatever words w were lent
 pub slips-told-apart :
-    (a b c : ℕ) →
-    (opening terraces (replicate 22 a) ≡ record { verdict = Passed; index = terraceIndex })
+    (w : ℕ → ℕ) →
+    -- the terraces are accepted, with their index
+    (opening terraces (tab w 22) ≡ record { verdict = Passed; index = terraceIndex })
+    -- nothing beneath is the first zone of the line, and not zone 0
     × (reading terraces (pos 1) (negsuc 4) ≡ Zone 2)
-    × (searching terraces terraceIndex (pos 2) (pos 25) (a ∷ b ∷ c ∷ []) ≡ record { found = record { answer = Zone 1; examined = 2; probes = 4 }; trail = 5 ∷ 8 ∷ c ∷ [] })
-    × (opening hiddenName (replicate 12 a) ≡ record { verdict = Refused 11 1; index = replicate 12 a })
+    -- at a vertex abscissa the edge to its east covers; a chain once passed is not examined again; each look is counted
+    × (searching terraces terraceIndex (pos 2) (pos 25) (tab w 3) ≡ record { found = record { answer = Zone 1; examined = 2; probes = 4 }; trail = 5 ∷ 8 ∷ w 2 ∷ [] })
+    -- a name changed where two edges end on one abscissa is refused, at that vertex
+    × (opening hiddenName (tab w 12) ≡ record { verdict = Refused 11 1; index = tab w 12 })
+    -- a height of two thirds is neither 0 nor 1
     × (reading flatEdge (pos 2) (pos 0) ∷ reading flatEdge (pos 2) (pos 1) ∷ [] ≡ Zone 0 ∷ Zone 1 ∷ [])
+    -- the four readings agree on the terraces, and differ where the name is changed
     × (fourReadings terraces (pos 1) (pos 15) ≡ 3 ∷ 3 ∷ 3 ∷ 3 ∷ [])
     × (fourReadings hiddenName (pos 1) (pos 5) ≡ 2 ∷ 2 ∷ 1 ∷ 2 ∷ [])
 unfolding terraces terraceIndex hiddenName flatEdge fourReadings opening reading searching descent indexDescent placeOf zoneAt chainOf eastward chain startOf indexWords firstZone lastZone zoneBeneath zoneOverhead zoneBeneathWest zoneOverheadWest plainReading nextZone zoneLine inOrder bits topBit lowBit lca lowest tab
-slips-told-apart a b c = (refl, refl, refl, refl, refl, refl, refl)
+slips-told-apart w = (refl, refl, refl, refl, refl, refl, refl)

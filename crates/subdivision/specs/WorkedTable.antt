@@ -3,7 +3,7 @@ use mathlib.Core.Path.{_≡_, refl}
 use mathlib.Core.List.{List, [], _∷_, map}
 use Prim.Native.Nat.{ℕ}
 use lib.IntN.{ℤ, pos, negsuc}
-use lib.ListN.{length, replicate}
+use lib.ListN.{length}
 use Rattle.subdivision.specs.declared.Answer.{Answer}
 use Rattle.subdivision.specs.declared.Answer.the-variants.{Vertex, Edge, Zone}
 use Rattle.subdivision.specs.declared.Verdict.the-variants.{Passed}
@@ -68,11 +68,11 @@ searched lent c =
 unfoldable pub expected : List ℕ → Case → Row
 expected lent c = record { plain = c .answer; published = searched lent c; quick = searched lent c }
 
--- the worked table, whatever words were lent: the lens index from the raw tables, the seven points, the three lca values
+-- the worked table, whatever words w were lent: the lens index from the raw tables, the seven points, the three lca values
 pub worked-table :
-    (a b : ℕ) →
-    (opening lens (replicate 14 a) ≡ record { verdict = Passed; index = lensIndex })
-    × (map (computed (a ∷ b ∷ [])) lensCases ≡ map (expected (a ∷ b ∷ [])) lensCases)
+    (w : ℕ → ℕ) →
+    (opening lens (tab w 14) ≡ record { verdict = Passed; index = lensIndex })
+    × (map (computed (tab w 2)) lensCases ≡ map (expected (tab w 2)) lensCases)
     × (lca 0 11 ∷ lca 7 9 ∷ lca 9 10 ∷ [] ≡ 8 ∷ 8 ∷ 10 ∷ [])
 unfolding lens lensIndex lensCases computed searched expected opening reading searching descent publishedDescent indexDescent placeOf zoneAt chainOf eastward chain startOf entryAt indexWords firstZone zoneBeneath plainReading nextZone zoneLine inOrder bits topBit lowBit lca lowest tab
-worked-table a b = (refl, refl, refl)
+worked-table w = (refl, refl, refl)

@@ -9,6 +9,7 @@ pub mod Lists
 pub mod Lowest
 pub mod Merge
 pub mod Order
+pub mod Position
 pub mod Shift
 pub mod Sides
 pub mod Tables

@@ -1,10 +1,12 @@
--- Laws of lists: a function's values.
-use mathlib.Core.Path.{_≡_, refl, ap}
+-- Laws of lists: a function's values, and what is past a place.
+use mathlib.Core.Path.{_≡_, refl, sym, ap, _∙_}
 use mathlib.Core.List.{List, [], _∷_, _++_}
-use Prim.Native.Nat.{ℕ, zero, suc, _+_, _<_}
+use Prim.Native.Nat.{ℕ, zero, suc, _+_, _-_, _<_, _≤_}
 use native.Mathlib.Nat.{add-zero, zero-add, add-suc, suc-add, le-of-suc-le-suc, not-suc-le-zero}
 use native.Mathlib.Numerals.{add-one}
-use lib.ListN.{length, getD}
+use native.Mathlib.Omega.{arith}
+use lib.ListN.{length, getD, drop}
+use lib.Seq.{drop-drop}
 use Rattle.subdivision.specs.Lists.{tab, tabFrom}
 
 module _ {A : Type 0} (f : ℕ → A) where
@@ -34,3 +36,9 @@ module _ {A : Type 0} (f : ℕ → A) where
   pub getD-tab : (n i : ℕ) (d : A) → i < n → getD (tab f n) i d ≡ f i
   unfolding tab
   getD-tab n i d h = rw zero-add at (getD-tab-from n zero i d h)
+
+-- lists that agree past a place agree past every later one
+pub past-later : (n k : ℕ) (l m : List ℕ) → drop k l ≡ drop k m → k ≤ n → drop n l ≡ drop n m
+past-later n k l m e h =
+    let at : k + (n - k) ≡ n = omega arith in
+    rw at at (sym (drop-drop (n - k) k l) ∙ ap (drop (n - k)) e ∙ drop-drop (n - k) k m)

@@ -37,7 +37,7 @@ pub lowest-is : (test : ℕ → Bool) (n : ℕ) → IsLeast test n (lowest test 
 unfolding lowest
 lowest-is test n = rw add-zero at (lowestFrom-is test n 0 (λ k h. absurd (lt-irrefl k (omega arith))))
 
--- what the search's two facts pin down
+-- a number with these three facts is the lowest
 pub is-lowest : {test : ℕ → Bool} {n r : ℕ} → IsLeast test n r → lowest test n ≡ r
 is-lowest {test} {n} a = lowest-one (lowest-is test n) a
 
@@ -52,7 +52,7 @@ lowest-passes test n = lowest-is test n .passes
 pub lowest-le : (test : ℕ → Bool) (n : ℕ) → lowest test n ≤ n
 lowest-le test n = lowest-is test n .within
 
--- where some number below the count passes, the lowest is at most that number
+-- the lowest is at most any number that passes
 pub lowest-at-most : (test : ℕ → Bool) (n k : ℕ) → test k ≡ true → lowest test n ≤ k
 lowest-at-most test n k e = omega (arith, not-above)
   where

@@ -2,80 +2,20 @@
 use mathlib.Core.Path.{_≡_, refl, sym, ap, _∙_}
 use mathlib.Core.Bool.{Bool, true, false, not}
 use mathlib.Core.List.{List, [], _∷_, _++_}
-use mathlib.Core.Logic.{_⊎_, inl, inr, ⊎-elim, _↔_}
-use Prim.Native.Nat.{ℕ, zero, suc, _+_, _<_, _≤_, zero-le, suc-le-suc}
-use native.Mathlib.Nat.{le-refl, lt-irrefl, not-suc-le-zero, le-of-suc-le-suc, suc-ne-zero, add-zero}
-use native.Mathlib.Numerals.{add-one}
+use mathlib.Core.Logic.{⊎-elim, _↔_}
+use Prim.Native.Nat.{ℕ, zero, suc, _+_, _<_, _≤_}
+use native.Mathlib.Nat.{le-refl, not-suc-le-zero, add-zero}
 use native.Mathlib.Omega.{arith}
-use lib.Dec.{ltb, eqb}
-use lib.ListN.{length, length-append}
-use borrow.Author.Tests.{eqb-true, eqb-false, eq-eqb, ne-eqb, lt-ltb, ltb-true}
+use lib.Dec.{ltb}
+use lib.ListN.{length}
+use borrow.Author.Tests.{lt-ltb, ltb-true}
 use Rattle.subdivision.specs.Formula.{Formula, isEqual, implies, notSo, everyBelow, holds, Means}
 use Rattle.subdivision.specs.Sheet.{Sheet, edgeCount, zoneCount, aboveOf, belowOf}
 use Rattle.subdivision.specs.ZoneLine.{position, isIn, InLine, Rule7, isReady, nextZone, lengthened, lineTo, zoneLine}
 use Rattle.theory.proofs.Decide.{true-or-false, means, held, denies, fails, broken-item, broken-implies}
 use Rattle.theory.proofs.Lowest.{lowest-passes, lowest-at-most}
+use Rattle.theory.proofs.Position.{position-kept, position-last, absent, length-snoc, in-snoc}
 use Rattle.theory.proofs.Counting.{countUnder, count-all, count-none, count-some, count-less}
-
--- ---- places in a list
-
-pub position-le : (z : ℕ) (l : List ℕ) → position z l ≤ length l
-position-le z [] = zero-le
-position-le z (x ∷ l) = go (eqb z x) (position-le z l)
-  where
-    go : (b : Bool) → position z l ≤ length l → (elim b [ true ↦ zero | false ↦ suc (position z l) ]) ≤ suc (length l)
-    go true h = zero-le
-    go false h = suc-le-suc h
-
--- a number that stands in a list keeps its place when the list grows
-pub position-kept : (z : ℕ) (l k : List ℕ) → position z l < length l → position z (l ++ k) ≡ position z l
-position-kept z [] k h = absurd (not-suc-le-zero h)
-position-kept z (x ∷ l) k h = go (eqb z x) h (position-kept z l k)
-  where
-    go : (b : Bool) → (elim b [ true ↦ zero | false ↦ suc (position z l) ]) < suc (length l)
-        → (position z l < length l → position z (l ++ k) ≡ position z l)
-        → _≡_ {A = ℕ} (elim b [ true ↦ zero | false ↦ suc (position z (l ++ k)) ]) (elim b [ true ↦ zero | false ↦ suc (position z l) ])
-    go true h rest = refl
-    go false h rest = ap suc (rest (le-of-suc-le-suc h))
-
--- a number that does not stand in a list has its place at the end, where it is put there
-pub position-last : (z : ℕ) (l : List ℕ) → position z l ≡ length l → position z (l ++ (z ∷ [])) ≡ length l
-position-last z [] e = rw (eq-eqb z z refl, position)
-position-last z (x ∷ l) e = go (eqb z x) e (position-last z l)
-  where
-    go : (b : Bool) → _≡_ {A = ℕ} (elim b [ true ↦ zero | false ↦ suc (position z l) ]) (suc (length l))
-        → (position z l ≡ length l → position z (l ++ (z ∷ [])) ≡ length l)
-        → _≡_ {A = ℕ} (elim b [ true ↦ zero | false ↦ suc (position z (l ++ (z ∷ []))) ]) (suc (length l))
-    go true h rest = h
-    go false h rest = ap suc (rest (omega arith))
-
--- another number is still not there
-pub position-other : (y z : ℕ) (l : List ℕ) → (y ≡ z → ⊥) → position y l ≡ length l → position y (l ++ (z ∷ [])) ≡ suc (length l)
-position-other y z [] d e = rw (ne-eqb y z d, position)
-position-other y z (x ∷ l) d e = go (eqb y x) e (position-other y z l d)
-  where
-    go : (b : Bool) → _≡_ {A = ℕ} (elim b [ true ↦ zero | false ↦ suc (position y l) ]) (suc (length l))
-        → (position y l ≡ length l → position y (l ++ (z ∷ [])) ≡ suc (length l))
-        → _≡_ {A = ℕ} (elim b [ true ↦ zero | false ↦ suc (position y (l ++ (z ∷ []))) ]) (suc (suc (length l)))
-    go true h rest = absurd (suc-ne-zero (length l) (sym h))
-    go false h rest = ap suc (rest (omega arith))
-
-absent : (z : ℕ) (l : List ℕ) → (position z l < length l → ⊥) → position z l ≡ length l
-absent z l d = omega (arith, position-le z l)
-
-length-snoc : (z : ℕ) (l : List ℕ) → length (l ++ (z ∷ [])) ≡ suc (length l)
-length-snoc z l = length-append l (z ∷ []) ∙ add-one (length l)
-
--- what stands in a longer list: what stood there, or what was put at its end
-in-snoc : (y z : ℕ) (l : List ℕ) → position y (l ++ (z ∷ [])) < length (l ++ (z ∷ [])) → (position y l < length l) ⊎ (y ≡ z)
-in-snoc y z l h =
-    ⊎-elim (λ e. inl (means (isIn y l) e)) (λ e. inr (last (absent y l (denies (isIn y l) e)))) (true-or-false (holds (isIn y l)))
-  where
-    last : position y l ≡ length l → y ≡ z
-    last a =
-        ⊎-elim (eqb-true y z)
-        (λ e. absurd (lt-irrefl (suc (length l)) (rw (position-other y z l (eqb-false y z e) a, length-snoc z l) at h)))
-        (true-or-false (eqb y z))
 
 module _ (s : Sheet) where
   -- zone z is not placed yet

@@ -34,13 +34,15 @@ fn sorted_by_key_then_number() {
         let keys = if r.below(8) == 0 { &keys[..n / 2] } else { &keys[..] };
         let room = if r.below(10) == 0 { r.below(n as u64 + 1) as usize } else { n + r.below(3) as usize };
         let before: Vec<u32> = (0..n).map(|_| r.next() as u32).collect();
-        let (mut order, mut scratch) = (before.clone(), vec![7u32; room]);
+        let lent: Vec<u32> = (0..room).map(|_| r.next() as u32).collect();
+        let (mut order, mut scratch) = (before.clone(), lent.clone());
         let answer = sort(keys, &mut order, &mut scratch);
         if room < n {
             short += 1;
-            assert_eq!((answer, &order), (0, &before));
+            assert_eq!((answer, &order, &scratch), (0, &before, &lent));
             continue;
         }
+        assert_eq!(scratch[n..], lent[n..], "past the places that a sort of {n} may use");
         let key = |k: u32| keys.get(k as usize).copied().unwrap_or(0);
         let mut wanted: Vec<u32> = (0..n as u32).collect();
         wanted.sort_by_key(|k| (key(*k), *k));
