@@ -4,7 +4,8 @@ use Prim.Native.Nat.{ℕ, _*_}
 use Rattle.subdivision.specs.declared.Segment.{Segment}
 use Rattle.subdivision.specs.declared.Side.{Side}
 use Rattle.subdivision.specs.declared.Side.the-variants.{Below, On, Above}
-use Rattle.subdivision.specs.Lines.{width, height, sideOf}
+use Rattle.subdivision.specs.Formula.{Formula, isLess, both}
+use Rattle.subdivision.specs.Lines.{width, height, sideOf, lower, overlapWest, overlapEast}
 
 -- the side of g on which h lies on the doubled line c
 abbrev pub orderOn : ℕ → Segment → Segment → Side
@@ -27,3 +28,15 @@ broken On Above fork meet = not fork
 broken Above Below fork meet = true
 broken Above On fork meet = not meet
 broken Above Above fork meet = false
+
+-- two edges overlap, and g is lower than h at the eastern end of the overlap, or at its western end; beside a common western vertex the first, and beside a common eastern vertex the second, is the order of the two
+abbrev pub lowerBeside : Bool → Segment → Segment → Formula
+lowerBeside eastern g h =
+    both (isLess (overlapWest g h) (overlapEast g h))
+    (lower (2 * (elim eastern [ true ↦ overlapEast g h | false ↦ overlapWest g h ])) g h)
+
+-- the side is above
+abbrev pub isUp : Side → Bool
+isUp Below = false
+isUp On = false
+isUp Above = true

@@ -4,7 +4,7 @@ ghost use mathlib.Core.Path.{_≡_};
 ghost use Prim.Native.Nat.{_*_, _-_, _<_, min, max};
 ghost use Rattle.subdivision.specs.Formula.{holds};
 ghost use Rattle.subdivision.specs.Lines.{covers, pointPart, edgePart, sideAt, overlapWest, overlapEast, conflict};
-ghost use Rattle.geometry.specs.Crossing.{orderOn, turned, broken};
+ghost use Rattle.geometry.specs.Crossing.{orderOn, turned, broken, isUp, lowerBeside};
 
 // An edge covers the abscissa x: half open, and closed at the eastern margin.
 pub fn covers(margin: u32, g: Segment, x: u32) -> bool
@@ -156,4 +156,31 @@ pub fn conflict(g: Segment, h: Segment) -> bool
     let west = order_west(g, h);
     let east = order_east(g, h);
     broken(west, east, g.west == h.west, g.east == h.east)
+}
+
+// Of two edges that start at one vertex (eastern) or end at one, g is the lower beside it: decided by
+// a side test at the other end of their overlap. False where they do not overlap.
+pub fn lower_beside(eastern: bool, g: Segment, h: Segment) -> bool
+    ensures { λ r. ⌜ r ≡ holds (lowerBeside eastern g h) ⌝ }
+{
+    let a = larger(g.xw, h.xw);
+    let b = smaller(g.xe, h.xe);
+    if b <= a {
+        return false;
+    }
+    if eastern {
+        return is_above(order_east(g, h));
+    }
+    is_above(order_west(g, h))
+}
+
+// Whether a side is above.
+fn is_above(s: Side) -> bool
+    ensures { λ r. ⌜ r ≡ isUp s ⌝ }
+{
+    match s {
+        Side::Below => false,
+        Side::On => false,
+        Side::Above => true,
+    }
 }

@@ -1,3 +1,4 @@
-// Leaves with no geometry: bit length, top bit, lca, and a sort of numbers by a key.
+// Leaves with no geometry: bit length, top bit, lca, a sort of numbers by a key, and the groups of a sorted order.
 pub mod dyadic;
+pub mod groups;
 pub mod order;

@@ -19,6 +19,10 @@ pub record Sheet : Type 0 where
   pub edges : List ℕ
   pub zones : ℕ
 
+-- the sheet of lent margins, tables and number of zones
+abbrev pub sheetOf : ℤ → ℤ → List ℤ → List ℕ → ℕ → Sheet
+sheetOf west east vertices edges zones = record { west = west; east = east; vertices = vertices; edges = edges; zones = zones }
+
 -- x of vertex v, shifted
 abbrev pub vertexX : List ℤ → ℕ → ℕ
 vertexX vertices v = shifted (getD vertices (2 * v) (pos 0))

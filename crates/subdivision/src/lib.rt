@@ -1,4 +1,13 @@
-// The answers of document 01, as types. The definitions over them are in specs/.
+// The answers of document 01, as types, and its limits as the sizes of local storage. The definitions over them are in specs/.
+
+// At most so many vertices.
+pub const MAX_VERTICES: usize = 1024;
+
+// At most so many edges.
+pub const MAX_EDGES: usize = 2048;
+
+// At most so many zones.
+pub const MAX_ZONES: usize = 1024;
 
 // Where a point lies, or why it was not placed: the kinds are kept apart.
 pub enum Answer {

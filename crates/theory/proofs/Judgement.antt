@@ -7,7 +7,9 @@ use Prim.Native.Nat.{ℕ, _<_}
 use native.Mathlib.Omega.{arith}
 use borrow.Author.Tests.{not-true, not-false}
 use Rattle.subdivision.specs.declared.Verdict.{Verdict}
+use Rattle.subdivision.specs.declared.Verdict.the-variants.{Passed, Refused}
 use Rattle.subdivision.specs.Formula.{Formula, everyBelow, holds, Means}
+use Rattle.subdivision.specs.Lowest.{lowest}
 use Rattle.subdivision.specs.Sheet.{Sheet}
 use Rattle.subdivision.specs.Refusals.{Refusal, names, forEach, judged, limitRefusals, ruleRefusals}
 use Rattle.subdivision.specs.Accepted.{Accepted}
@@ -88,6 +90,49 @@ names-lowest number items clause f =
 
     below : item < items
     below = omega (arith, some .1, lowest-at-most fault items (some .0) (ap not (fails (clause (some .0)) (some .2))))
+
+-- refusals in two lists, one after the other: those of the second are looked at where the first passes
+pub judged-append : (rs qs : List Refusal)
+    → judged (rs ++ qs) ≡ (elim (judged rs) [ Passed ↦ judged qs | Refused number item ↦ Verdict.Refused number item ])
+judged-append [] qs = refl
+judged-append (r ∷ rs) qs = go (holds (r .kept)) (judged-append rs qs)
+  where
+    andThen : Verdict → Verdict
+    andThen v = elim v [ Passed ↦ judged qs | Refused number item ↦ Verdict.Refused number item ]
+
+    go : (b : Bool) → judged (rs ++ qs) ≡ andThen (judged rs)
+        → _≡_ {A = Verdict} (elim b [ true ↦ judged (rs ++ qs) | false ↦ Verdict.Refused (r .number) (names r) ])
+        (andThen (elim b [ true ↦ judged rs | false ↦ Verdict.Refused (r .number) (names r) ]))
+    go true rest = rest
+    go false rest = refl
+
+-- where no item breaks the clause, every item keeps it
+pub lowest-all-means : (items : ℕ) (clause : ℕ → Formula) → lowest (λ k. not (holds (clause k))) items ≡ items
+    → (k : ℕ) → k < items → Means (clause k)
+lowest-all-means items clause e k h =
+    means (clause k) (not-false (holds (clause k)) (lowest-before (λ i. not (holds (clause i))) items k (omega arith)))
+
+-- where some item breaks the clause, not every item keeps it
+lowest-below-breaks : (items : ℕ) (clause : ℕ → Formula) → lowest (λ k. not (holds (clause k))) items < items
+    → Means (everyBelow items clause) → ⊥
+lowest-below-breaks items clause h m =
+    denies (clause item) (not-true (holds (clause item)) (lowest-passes (λ k. not (holds (clause k))) items h)) (m item h)
+  where
+    item : ℕ
+    item = lowest (λ k. not (holds (clause k))) items
+
+-- a refusal for each item is passed where no item breaks its clause
+pub judged-for-each-kept : (number items : ℕ) (clause : ℕ → Formula) (rs : List Refusal)
+    → lowest (λ k. not (holds (clause k))) items ≡ items → judged (forEach number items clause ∷ rs) ≡ judged rs
+judged-for-each-kept number items clause rs e =
+    rw (held (everyBelow items clause) (lowest-all-means items clause e), judged)
+
+-- a refusal for each item is given where some item breaks its clause, and names the lowest
+pub judged-for-each-broken : (number items : ℕ) (clause : ℕ → Formula) (rs : List Refusal)
+    → lowest (λ k. not (holds (clause k))) items < items
+    → judged (forEach number items clause ∷ rs) ≡ Verdict.Refused number (lowest (λ k. not (holds (clause k))) items)
+judged-for-each-broken number items clause rs h =
+    rw (fails (everyBelow items clause) (lowest-below-breaks items clause h), judged)
 
 -- a sheet is accepted exactly when the judgement passes it
 pub accepted-decides : (s : Sheet) → (judged (limitRefusals s ++ ruleRefusals s) ≡ Verdict.Passed) ↔ Accepted s

@@ -2,6 +2,7 @@
 pub mod Counting
 pub mod Decide
 pub mod Dyadic
+pub mod Groups
 pub mod Heights
 pub mod Index
 pub mod Judgement

@@ -1,12 +1,14 @@
 -- Laws of the lowest number that passes a test.
-use mathlib.Core.Path.{_≡_, refl}
+use mathlib.Core.Path.{_≡_, refl, sym, ap}
 use mathlib.Core.Bool.{Bool, true, false}
-use mathlib.Core.Logic.{⊎-elim}
-use Prim.Native.Nat.{ℕ, zero, suc, _+_, _<_, _≤_}
-use native.Mathlib.Nat.{lt-irrefl, add-zero}
+use mathlib.Core.Logic.{_⊎_, inl, inr, ⊎-elim}
+use Prim.Native.Nat.{ℕ, zero, suc, _+_, _-_, _<_, _≤_, zero-le, min}
+use native.Mathlib.Nat.{lt-irrefl, lt-suc-self, le-refl, not-suc-le-zero, add-zero}
+use native.Mathlib.Numerals.{add-one}
+use native.Mathlib.Decide.{decLe}
 use native.Mathlib.Omega.{arith}
 use Rattle.subdivision.specs.Lowest.{lowestFrom, lowest}
-use Rattle.theory.proofs.Decide.{not-both, below-suc}
+use Rattle.theory.proofs.Decide.{not-both, true-or-false, below-suc}
 
 -- r is the lowest number below n that passes the test, or n where none does
 pub record IsLeast (test : ℕ → Bool) (n r : ℕ) : Type 0 where
@@ -62,3 +64,117 @@ lowest-at-most test n k e = omega (arith, not-above)
 -- where none below the count passes, the lowest is the count
 pub lowest-none : (test : ℕ → Bool) (n : ℕ) → ((k : ℕ) → k < n → test k ≡ false) → lowest test n ≡ n
 lowest-none test n f = is-lowest (record { within = omega arith; before = f; passes = λ l. absurd (lt-irrefl n l) })
+
+-- a search from i on goes on where i does not pass
+pub lowest-from-next : (test : ℕ → Bool) (n i : ℕ) → i < n → test i ≡ false → lowestFrom test (n - i) i ≡ lowestFrom test (n - suc i) (suc i)
+lowest-from-next test n i h e = let more : n - i ≡ suc (n - suc i) = omega arith in rw more (rw (e, lowestFrom))
+
+-- a search from i on ends at i where i passes
+pub lowest-from-found : (test : ℕ → Bool) (n i : ℕ) → i < n → test i ≡ true → lowestFrom test (n - i) i ≡ i
+lowest-from-found test n i h e = let more : n - i ≡ suc (n - suc i) = omega arith in rw more (rw (e, lowestFrom))
+
+-- a search from the end on is there already
+pub lowest-from-end : (test : ℕ → Bool) (n i : ℕ) → n ≤ i → lowestFrom test (n - i) i ≡ i
+lowest-from-end test n i h = let none : n - i ≡ 0 = omega arith in rw none refl
+
+-- a search from i on is the whole search where nothing before i passes
+pub lowest-from : (test : ℕ → Bool) (n i : ℕ) → i ≤ n → ((k : ℕ) → k < i → test k ≡ false) → lowestFrom test (n - i) i ≡ lowest test n
+lowest-from test n i h f =
+    let whole : n - i + i ≡ n = omega arith in
+    sym (is-lowest (rw whole at (lowestFrom-is test (n - i) i f)))
+
+-- a search that has come to r, of n numbers, has passed none that passes the test
+abbrev pub Searched : (ℕ → Bool) → ℕ → ℕ → Type 0
+Searched test n r = (r ≤ n) × ((k : ℕ) → k < r → test k ≡ false)
+
+pub search-starts : (test : ℕ → Bool) (n : ℕ) → Searched test n 0
+search-starts test n = (zero-le, λ k h. absurd (not-suc-le-zero h))
+
+pub search-goes-on : (test : ℕ → Bool) (n r : ℕ) → Searched test n r → r < n → test r ≡ false → Searched test n (r + 1)
+search-goes-on test n r s h e =
+    (omega arith, λ k l. ⊎-elim (λ (i : k ≡ r). rw i e) (s .1 k) (below-suc (rw (add-one r) at l)))
+
+-- a search that stops at the end, or at a number that passes, stops at the lowest that does
+pub search-ends : (test : ℕ → Bool) (n r : ℕ) → Searched test n r → (r < n → test r ≡ true) → r ≡ lowest test n
+search-ends test n r s stop = sym (is-lowest (record { within = s .0; before = s .1; passes = stop }))
+
+-- the least of the items i below a count that pass a test, and of one more number
+abbrev pub leastOf : (ℕ → Bool) → (ℕ → ℕ) → ℕ → ℕ → ℕ
+leastOf test item zero most = most
+leastOf test item (suc i) most = elim (test i) [ true ↦ min (item i) (leastOf test item i most) | false ↦ leastOf test item i most ]
+
+module _ (test : ℕ → Bool) (item : ℕ → ℕ) (most : ℕ) where
+  -- one item more, which passes
+  pub least-with : (i : ℕ) → test i ≡ true → leastOf test item (i + 1) most ≡ min (item i) (leastOf test item i most)
+  least-with i e = rw (add-one i, e, leastOf)
+
+  -- one item more, which fails
+  pub least-without : (i : ℕ) → test i ≡ false → leastOf test item (i + 1) most ≡ leastOf test item i most
+  least-without i e = rw (add-one i, e, leastOf)
+
+  least-le-most : (c : ℕ) → leastOf test item c most ≤ most
+  least-le-most zero = le-refl most
+  least-le-most (suc c) = go (test c) (least-le-most c)
+    where
+      go : (b : Bool) → leastOf test item c most ≤ most
+          → (elim b [ true ↦ min (item c) (leastOf test item c most) | false ↦ leastOf test item c most ]) ≤ most
+      go true h = omega arith
+      go false h = h
+
+  least-le-item : (c i : ℕ) → i < c → test i ≡ true → leastOf test item c most ≤ item i
+  least-le-item zero i h e = absurd (not-suc-le-zero h)
+  least-le-item (suc c) i h e = go (test c) refl (least-le-item c i) (below-suc h)
+    where
+      go : (b : Bool) → test c ≡ b → (i < c → test i ≡ true → leastOf test item c most ≤ item i) → (i ≡ c) ⊎ (i < c)
+          → (elim b [ true ↦ min (item c) (leastOf test item c most) | false ↦ leastOf test item c most ]) ≤ item i
+      go true t rest (inl j) = omega (arith, ap item j)
+      go false t rest (inl j) = absurd (not-both (rw j at e) t)
+      go true t rest (inr l) = omega (arith, rest l e)
+      go false t rest (inr l) = rest l e
+
+  least-is-one : (c : ℕ) → (leastOf test item c most ≡ most) ⊎ ((i : ℕ) × (i < c) × (test i ≡ true) × (leastOf test item c most ≡ item i))
+  least-is-one zero = inl refl
+  least-is-one (suc c) = go (test c) refl (least-is-one c)
+    where
+      least : ℕ
+      least = leastOf test item c most
+
+      up : {r : ℕ} → (r ≡ most) ⊎ ((i : ℕ) × (i < c) × (test i ≡ true) × (r ≡ item i)) → (r ≡ most) ⊎ ((i : ℕ) × (i < suc c) × (test i ≡ true) × (r ≡ item i))
+      up (inl e) = inl e
+      up (inr f) = inr (f .0, omega (arith, f .1), f .2, f .3)
+
+      go : (b : Bool) → test c ≡ b → (least ≡ most) ⊎ ((i : ℕ) × (i < c) × (test i ≡ true) × (least ≡ item i))
+          → ((elim b [ true ↦ min (item c) least | false ↦ least ]) ≡ most)
+          ⊎ ((i : ℕ) × (i < suc c) × (test i ≡ true) × ((elim b [ true ↦ min (item c) least | false ↦ least ]) ≡ item i))
+      go false t one = up one
+      go true t one = smaller (decLe (item c) least)
+        where
+          smaller : Dec (item c ≤ least) → (min (item c) least ≡ most) ⊎ ((i : ℕ) × (i < suc c) × (test i ≡ true) × (min (item c) least ≡ item i))
+          smaller (yes h) = inr (c, lt-suc-self c, t, omega arith)
+          smaller (no h) = let same : min (item c) least ≡ least = omega arith in rw same (up one)
+
+-- where the passing items are the numbers below n that pass another test, the least of them and of n is the lowest such number
+pub least-is-lowest : (test : ℕ → Bool) (item : ℕ → ℕ) (passes : ℕ → Bool) (c n : ℕ)
+    → ((i : ℕ) → i < c → test i ≡ true → (item i < n) × (passes (item i) ≡ true))
+    → ((k : ℕ) → k < n → passes k ≡ true → (i : ℕ) × (i < c) × (test i ≡ true) × (item i ≡ k))
+    → leastOf test item c n ≡ lowest passes n
+least-is-lowest test item passes c n sound whole =
+    sym (is-lowest (record { within = within; before = before; passes = λ h. least-passes h (least-is-one test item n c) }))
+  where
+    least : ℕ
+    least = leastOf test item c n
+
+    within : least ≤ n
+    within = least-le-most test item n c
+
+    not-passed : (k : ℕ) → k < least → passes k ≡ true → ⊥
+    not-passed k h e =
+        let i = whole k (omega (arith, within)) e in
+        omega (arith, least-le-item test item n c (i .0) (i .1) (i .2), i .3)
+
+    before : (k : ℕ) → k < least → passes k ≡ false
+    before k h = ⊎-elim (λ e. absurd (not-passed k h e)) (λ e. e) (true-or-false (passes k))
+
+    least-passes : least < n → (least ≡ n) ⊎ ((i : ℕ) × (i < c) × (test i ≡ true) × (least ≡ item i)) → passes least ≡ true
+    least-passes h (inl e) = absurd (omega arith)
+    least-passes h (inr i) = rw (i .3) (sound (i .0) (i .1) (i .2) .1)

@@ -8,7 +8,7 @@ use native.Mathlib.Nat.{lt-irrefl, not-suc-le-zero, le-of-suc-le-suc, suc-ne-zer
 use native.Mathlib.Numerals.{add-one}
 use native.Mathlib.Omega.{arith}
 use lib.Dec.{eqb}
-use lib.ListN.{length, length-append}
+use lib.ListN.{length, getD, length-append}
 use borrow.Author.Tests.{eqb-true, eqb-false, eq-eqb, ne-eqb}
 use Rattle.subdivision.specs.Formula.{holds}
 use Rattle.subdivision.specs.ZoneLine.{position, isIn}
@@ -54,6 +54,17 @@ position-other y z (x ∷ l) d e = go (eqb y x) e (position-other y z l d)
         → _≡_ {A = ℕ} (elim b [ true ↦ zero | false ↦ suc (position y (l ++ (z ∷ []))) ]) (suc (suc (length l)))
     go true h rest = absurd (suc-ne-zero (length l) (sym h))
     go false h rest = ap suc (rest (omega arith))
+
+-- at a number's place stands the number
+pub entry-at-place : (z : ℕ) (l : List ℕ) → position z l < length l → getD l (position z l) 0 ≡ z
+entry-at-place z [] h = absurd (not-suc-le-zero h)
+entry-at-place z (x ∷ l) h = go (eqb z x) refl h (entry-at-place z l)
+  where
+    go : (b : Bool) → eqb z x ≡ b → (elim b [ true ↦ zero | false ↦ suc (position z l) ]) < suc (length l)
+        → (position z l < length l → getD l (position z l) 0 ≡ z)
+        → getD (x ∷ l) (elim b [ true ↦ zero | false ↦ suc (position z l) ]) 0 ≡ z
+    go true e h rest = sym (eqb-true z x e)
+    go false e h rest = rest (le-of-suc-le-suc h)
 
 pub absent : (z : ℕ) (l : List ℕ) → (position z l < length l → ⊥) → position z l ≡ length l
 absent z l d = omega (arith, position-le z l)

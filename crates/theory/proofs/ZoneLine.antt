@@ -2,34 +2,39 @@
 use mathlib.Core.Path.{_≡_, refl, sym, ap, _∙_}
 use mathlib.Core.Bool.{Bool, true, false, not}
 use mathlib.Core.List.{List, [], _∷_, _++_}
-use mathlib.Core.Logic.{⊎-elim, _↔_}
+use mathlib.Core.Logic.{_⊎_, ⊎-elim, _↔_}
 use Prim.Native.Nat.{ℕ, zero, suc, _+_, _<_, _≤_}
 use native.Mathlib.Nat.{le-refl, not-suc-le-zero, add-zero}
 use native.Mathlib.Omega.{arith}
 use lib.Dec.{ltb}
-use lib.ListN.{length}
+use lib.IntN.{ℤ, pos}
+use lib.ListN.{length, getD, List·getD-append}
+use lib.Seq.{getD-append-seam}
 use borrow.Author.Tests.{lt-ltb, ltb-true}
 use Rattle.subdivision.specs.Formula.{Formula, isEqual, implies, notSo, everyBelow, holds, Means}
-use Rattle.subdivision.specs.Sheet.{Sheet, edgeCount, zoneCount, aboveOf, belowOf}
+use Rattle.subdivision.specs.Sheet.{Sheet, sheetOf, edgeCount, zoneCount, aboveOf, belowOf}
 use Rattle.subdivision.specs.ZoneLine.{position, isIn, InLine, Rule7, isReady, nextZone, lengthened, lineTo, zoneLine}
-use Rattle.theory.proofs.Decide.{true-or-false, means, held, denies, fails, broken-item, broken-implies}
+use Rattle.theory.proofs.Decide.{true-or-false, below-suc, means, held, denies, fails, broken-item, broken-implies}
 use Rattle.theory.proofs.Lowest.{lowest-passes, lowest-at-most}
 use Rattle.theory.proofs.Position.{position-kept, position-last, absent, length-snoc, in-snoc}
 use Rattle.theory.proofs.Counting.{countUnder, count-all, count-none, count-some, count-less}
 
 module _ (s : Sheet) where
   -- zone z is not placed yet
-  abbrev unplaced : List ℕ → ℕ → Bool
+  abbrev pub unplaced : List ℕ → ℕ → Bool
   unplaced l z = holds (notSo (isIn z l))
 
-  -- a part of the line: as many zones are left as places, and each placed zone has its zones directly below before it
-  record Part (l : List ℕ) : Type 0 where
-    rest : countUnder (zoneCount s) (unplaced l) + length l ≡ zoneCount s
-    rising : (e : ℕ) → e < edgeCount s → position (aboveOf s e) l < length l → position (belowOf s e) l < position (aboveOf s e) l
+  -- a part of the line: as many zones are left as places, each placed zone has its zones directly below before it, and at each place stands
+  -- a zone that stands there alone
+  pub record Part (l : List ℕ) : Type 0 where
+    pub rest : countUnder (zoneCount s) (unplaced l) + length l ≡ zoneCount s
+    pub rising : (e : ℕ) → e < edgeCount s → position (aboveOf s e) l < length l → position (belowOf s e) l < position (aboveOf s e) l
+    pub zone : (i : ℕ) → i < length l → getD l i 0 < zoneCount s
+    pub once : (i : ℕ) → i < length l → position (getD l i 0) l ≡ i
 
   part-empty : Part []
   part-empty =
-      record { rest = rw add-zero (count-all (zoneCount s) (unplaced []) (λ k h. held (notSo (isIn k [])) (λ l. not-suc-le-zero l))); rising = λ e h l. absurd (not-suc-le-zero l) }
+      record { rest = rw add-zero (count-all (zoneCount s) (unplaced []) (λ k h. held (notSo (isIn k [])) (λ l. not-suc-le-zero l))); rising = λ e h l. absurd (not-suc-le-zero l); zone = λ i h. absurd (not-suc-le-zero h); once = λ i h. absurd (not-suc-le-zero h) }
 
   one-less : (l : List ℕ) (z : ℕ) → z < zoneCount s → (position z l < length l → ⊥)
       → countUnder (zoneCount s) (unplaced l) ≡ suc (countUnder (zoneCount s) (unplaced (l ++ (z ∷ []))))
@@ -51,8 +56,28 @@ module _ (s : Sheet) where
     where
       grown : (z : ℕ) → z < zoneCount s → Means (isReady s l z) → Part (l ++ (z ∷ []))
       grown z h r =
-          record { rest = omega (arith, p .rest, one-less l z h (r .0), length-snoc z l); rising = λ e b i. ⊎-elim (old e b) (new e b) (in-snoc (aboveOf s e) z l i) }
+          record { rest = omega (arith, p .rest, one-less l z h (r .0), length-snoc z l); rising = λ e b i. ⊎-elim (old e b) (new e b) (in-snoc (aboveOf s e) z l i); zone = λ i b. ⊎-elim (last-zone i) (old-zone i) (place i b); once = λ i b. ⊎-elim (last-once i) (old-once i) (place i b) }
         where
+          place : (i : ℕ) → i < length (l ++ (z ∷ [])) → (i ≡ length l) ⊎ (i < length l)
+          place i b = below-suc (rw length-snoc at b)
+
+          old-entry : (i : ℕ) → i < length l → getD (l ++ (z ∷ [])) i 0 ≡ getD l i 0
+          old-entry i b = List·getD-append l (z ∷ []) 0 i b
+
+          old-zone : (i : ℕ) → i < length l → getD (l ++ (z ∷ [])) i 0 < zoneCount s
+          old-zone i b = rw (old-entry i b) (p .zone i b)
+
+          last-zone : (i : ℕ) → i ≡ length l → getD (l ++ (z ∷ [])) i 0 < zoneCount s
+          last-zone i e = rw (e, getD-append-seam l z [] 0) h
+
+          old-once : (i : ℕ) → i < length l → position (getD (l ++ (z ∷ [])) i 0) (l ++ (z ∷ [])) ≡ i
+          old-once i b =
+              let there : position (getD l i 0) l < length l = omega (arith, p .once i b) in
+              rw (old-entry i b, position-kept (getD l i 0) l (z ∷ []) there) (p .once i b)
+
+          last-once : (i : ℕ) → i ≡ length l → position (getD (l ++ (z ∷ [])) i 0) (l ++ (z ∷ [])) ≡ i
+          last-once i e = rw (e, getD-append-seam l z [] 0) (position-last z l (absent z l (r .0)))
+
           old : (e : ℕ) → e < edgeCount s → position (aboveOf s e) l < length l → position (belowOf s e) (l ++ (z ∷ [])) < position (aboveOf s e) (l ++ (z ∷ []))
           old e b i =
               let up : position (belowOf s e) l < position (aboveOf s e) l = p .rising e b i in
@@ -69,9 +94,24 @@ module _ (s : Sheet) where
           grown (nextZone s l) h (means (isReady s l (nextZone s l)) (lowest-passes (λ z. holds (isReady s l z)) (zoneCount s) h))
       go false e = p
 
-  part-to : (p : ℕ) → Part (lineTo s p)
+  pub part-to : (p : ℕ) → Part (lineTo s p)
   part-to zero = part-empty
   part-to (suc p) = part-grows (lineTo s p) (part-to p)
+
+  -- the line used has at most a place for each zone
+  pub line-within : length (zoneLine s) ≤ zoneCount s
+  unfolding zoneLine
+  line-within = omega (arith, part-to (zoneCount s) .rest)
+
+  -- at each place of the line used stands a zone
+  pub line-entry-below : (i : ℕ) → i < length (zoneLine s) → getD (zoneLine s) i 0 < zoneCount s
+  unfolding zoneLine
+  line-entry-below = part-to (zoneCount s) .zone
+
+  -- each zone stands in the line used once
+  pub place-of-entry : (i : ℕ) → i < length (zoneLine s) → position (getD (zoneLine s) i 0) (zoneLine s) ≡ i
+  unfolding zoneLine
+  place-of-entry = part-to (zoneCount s) .once
 
   -- a line that places every zone is such a line
   pub line-kept : length (zoneLine s) ≡ zoneCount s → ((e : ℕ) → e < edgeCount s → aboveOf s e < zoneCount s) → InLine s (zoneLine s)
@@ -137,3 +177,14 @@ module _ (s : Sheet) where
   unfolding zoneLine
   line-decides named =
       (λ full. (zoneLine s, line-kept full (λ e h. named e h .0)), λ r. line-grows (r .0) (r .1) (λ e h. named e h .1) (zoneCount s) (le-refl (zoneCount s)))
+
+module _ (west east : ℤ) (vertices : List ℤ) (edges : List ℕ) (zones : ℕ) where
+  line-to-of-edges : (p : ℕ) → lineTo (sheetOf west east vertices edges zones) p ≡ lineTo (sheetOf (pos 0) (pos 0) [] edges zones) p
+  unfolding nextZone
+  line-to-of-edges zero = refl
+  line-to-of-edges (suc p) = ap (lengthened (sheetOf west east vertices edges zones)) (line-to-of-edges p)
+
+  -- the line used follows from the edges and the number of zones alone
+  pub line-of-edges : zoneLine (sheetOf west east vertices edges zones) ≡ zoneLine (sheetOf (pos 0) (pos 0) [] edges zones)
+  unfolding zoneLine
+  line-of-edges = line-to-of-edges zones
