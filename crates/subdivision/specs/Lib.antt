@@ -12,6 +12,7 @@ pub mod Rules
 pub mod ZoneLine
 pub mod Layout
 pub mod Refusals
+pub mod Faults
 pub mod Accepted
 pub mod Reading
 pub mod Index
@@ -20,3 +21,4 @@ pub mod Calls
 pub mod Answers
 pub mod WorkedTable
 pub mod Slips
+pub mod WorkedRefusals

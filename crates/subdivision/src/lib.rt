@@ -9,6 +9,12 @@ pub const MAX_EDGES: usize = 2048;
 // At most so many zones.
 pub const MAX_ZONES: usize = 1024;
 
+// The lowest coordinate, shifted.
+pub const LOWEST: u32 = 2146483648;
+
+// The highest coordinate, shifted.
+pub const HIGHEST: u32 = 2148483648;
+
 // Where a point lies, or why it was not placed: the kinds are kept apart.
 pub enum Answer {
     Vertex(u32),

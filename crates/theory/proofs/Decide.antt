@@ -17,6 +17,14 @@ pub true-or-false : (b : Bool) → (b ≡ true) ⊎ (b ≡ false)
 true-or-false true = inl refl
 true-or-false false = inr refl
 
+pub not-true : (b : Bool) → not b ≡ true → b ≡ false
+not-true true e = sym e
+not-true false e = refl
+
+pub not-false : (b : Bool) → not b ≡ false → b ≡ true
+not-false true e = refl
+not-false false e = sym e
+
 both-yes : (a b : Bool) → _≡_ {A = Bool} (elim a [ true ↦ b | false ↦ false ]) true → (a ≡ true) × (b ≡ true)
 both-yes true b e = (refl, e)
 both-yes false b e = absurd (false≢true e)
@@ -125,6 +133,11 @@ denies p e m = not-both (held p m) e
 -- what is not so fails
 pub fails : (p : Formula) → (Means p → ⊥) → holds p ≡ false
 fails p f = ⊎-elim (λ e. absurd (f (means p e))) (λ e. e) (true-or-false (holds p))
+
+-- a test that passes where a formula is so, and fails where it is not, is the formula computed
+pub computes : (p : Formula) (b : Bool) → (b ≡ true → Means p) → (b ≡ false → Means p → ⊥) → b ≡ holds p
+computes p true f g = sym (held p (f refl))
+computes p false f g = sym (fails p (g refl))
 
 -- where not every item keeps a clause, some item breaks it
 pub broken-item : (n : ℕ) (p : ℕ → Formula) → holds (everyBelow n p) ≡ false → (k : ℕ) × (k < n) × (Means (p k) → ⊥)

@@ -13,6 +13,7 @@ use Rattle.subdivision.specs.Lowest.{lowest}
 use Rattle.subdivision.specs.Sheet.{Sheet}
 use Rattle.subdivision.specs.Refusals.{Refusal, names, forEach, judged, limitRefusals, ruleRefusals}
 use Rattle.subdivision.specs.Accepted.{Accepted}
+use Rattle.subdivision.specs.Faults.{LowestFault}
 use Rattle.theory.proofs.Decide.{means, held, denies, fails, broken-item}
 use Rattle.theory.proofs.Lowest.{lowest-before, lowest-passes, lowest-at-most}
 use Rattle.theory.proofs.ZoneLine.{line-decides}
@@ -69,26 +70,28 @@ given-first-fault (r ∷ rs) number item e = go (holds (r .kept)) refl e (given-
     go false h p rest =
         record { before = []; refusal = r; after = rs; split = refl; kept = tt; fault = denies (r .kept) h; numbered = cc; named = cc }
 
--- the named item breaks the clause, and no lower one does
-pub record LowestFault (clause : ℕ → Formula) (items item : ℕ) : Type 0 where
-  pub within : item < items
-  pub broken : Means (clause item) → ⊥
-  pub lower : (k : ℕ) → k < item → Means (clause k)
-
-pub names-lowest : (number items : ℕ) (clause : ℕ → Formula) → (Means (everyBelow items clause) → ⊥) → LowestFault clause items (names (forEach number items clause))
-names-lowest number items clause f =
+-- the lowest item that breaks a clause, where one below the count does
+pub lowest-fault : (items : ℕ) (clause : ℕ → Formula) → lowest (λ k. not (holds (clause k))) items < items
+    → LowestFault clause items (lowest (λ k. not (holds (clause k))) items)
+lowest-fault items clause below =
     record { within = below; broken = denies (clause item) (not-true (holds (clause item)) (lowest-passes fault items below)); lower = λ k h. means (clause k) (not-false (holds (clause k)) (lowest-before fault items k h)) }
   where
     fault : ℕ → Bool
     fault k = not (holds (clause k))
 
     item : ℕ
-    item = names (forEach number items clause)
+    item = lowest fault items
+
+pub names-lowest : (number items : ℕ) (clause : ℕ → Formula) → (Means (everyBelow items clause) → ⊥) → LowestFault clause items (names (forEach number items clause))
+names-lowest number items clause f = lowest-fault items clause below
+  where
+    fault : ℕ → Bool
+    fault k = not (holds (clause k))
 
     some : (k : ℕ) × (k < items) × (Means (clause k) → ⊥)
     some = broken-item items clause (fails (everyBelow items clause) f)
 
-    below : item < items
+    below : lowest fault items < items
     below = omega (arith, some .1, lowest-at-most fault items (some .0) (ap not (fails (clause (some .0)) (some .2))))
 
 -- refusals in two lists, one after the other: those of the second are looked at where the first passes

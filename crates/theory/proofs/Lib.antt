@@ -1,17 +1,26 @@
 -- Laws of the definitions of `subdivision`, a file a subject.
+pub mod Beside
+pub mod Chains
+pub mod Circles
 pub mod Counting
 pub mod Decide
 pub mod Dyadic
+pub mod FanOrder
+pub mod Faults
 pub mod Groups
 pub mod Heights
 pub mod Index
 pub mod Judgement
+pub mod LineOrder
 pub mod Lists
 pub mod Lowest
+pub mod LowestOfTwo
 pub mod Merge
 pub mod Order
 pub mod Position
+pub mod Repeats
 pub mod Shift
 pub mod Sides
 pub mod Tables
+pub mod Tally
 pub mod ZoneLine

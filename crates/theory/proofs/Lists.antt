@@ -6,7 +6,7 @@ use native.Mathlib.Nat.{add-zero, zero-add, add-suc, suc-add, le-of-suc-le-suc, 
 use native.Mathlib.Numerals.{add-one}
 use native.Mathlib.Omega.{arith}
 use lib.ListN.{length, getD, drop}
-use lib.Seq.{drop-drop}
+use lib.Seq.{drop-drop, ext-getD}
 use Rattle.subdivision.specs.Lists.{tab, tabFrom}
 
 module _ {A : Type 0} (f : ℕ → A) where
@@ -36,6 +36,15 @@ module _ {A : Type 0} (f : ℕ → A) where
   pub getD-tab : (n i : ℕ) (d : A) → i < n → getD (tab f n) i d ≡ f i
   unfolding tab
   getD-tab n i d h = rw zero-add at (getD-tab-from n zero i d h)
+
+-- a list is the values that stand at its places
+pub is-tab : {A : Type 0} (f : ℕ → A) (d : A) (l : List A) (n : ℕ) → length l ≡ n → ((i : ℕ) → i < n → getD l i d ≡ f i) → l ≡ tab f n
+is-tab f d l n long at =
+    ext-getD d l (tab f n) (long ∙ sym (length-tab f n)) (λ i h. let b : i < n = rw long at h in at i b ∙ sym (getD-tab f n i d b))
+
+-- functions that agree below the count have the same values
+pub tab-same : {A : Type 0} (f g : ℕ → A) (n : ℕ) → ((i : ℕ) → i < n → f i ≡ g i) → tab f n ≡ tab g n
+tab-same f g n e = is-tab g (f zero) (tab f n) n (length-tab f n) (λ i h. getD-tab f n i (f zero) h ∙ e i h)
 
 -- lists that agree past a place agree past every later one
 pub past-later : (n k : ℕ) (l m : List ℕ) → drop k l ≡ drop k m → k ≤ n → drop n l ≡ drop n m

@@ -1,5 +1,5 @@
 -- Laws of the lowest number that passes a test.
-use mathlib.Core.Path.{_≡_, refl, sym, ap}
+use mathlib.Core.Path.{_≡_, refl, sym, ap, _∙_}
 use mathlib.Core.Bool.{Bool, true, false}
 use mathlib.Core.Logic.{_⊎_, inl, inr, ⊎-elim}
 use Prim.Native.Nat.{ℕ, zero, suc, _+_, _-_, _<_, _≤_, zero-le, min}
@@ -98,19 +98,29 @@ search-goes-on test n r s h e =
 pub search-ends : (test : ℕ → Bool) (n r : ℕ) → Searched test n r → (r < n → test r ≡ true) → r ≡ lowest test n
 search-ends test n r s stop = sym (is-lowest (record { within = s .0; before = s .1; passes = stop }))
 
+-- two tests that agree below the count have the same lowest
+pub lowest-same : (test other : ℕ → Bool) (n : ℕ) → ((k : ℕ) → k < n → test k ≡ other k) → lowest test n ≡ lowest other n
+lowest-same test other n f =
+    is-lowest (record { within = lowest-le other n; before = λ k h. f k (omega (arith, lowest-le other n)) ∙ lowest-before other n k h; passes = λ h. f (lowest other n) h ∙ lowest-passes other n h })
+
 -- the least of the items i below a count that pass a test, and of one more number
 abbrev pub leastOf : (ℕ → Bool) → (ℕ → ℕ) → ℕ → ℕ → ℕ
 leastOf test item zero most = most
 leastOf test item (suc i) most = elim (test i) [ true ↦ min (item i) (leastOf test item i most) | false ↦ leastOf test item i most ]
 
 module _ (test : ℕ → Bool) (item : ℕ → ℕ) (most : ℕ) where
+  -- one item more
+  pub least-more : (i : ℕ)
+      → leastOf test item (i + 1) most ≡ elim (test i) [ true ↦ min (item i) (leastOf test item i most) | false ↦ leastOf test item i most ]
+  least-more i = rw (add-one i)
+
   -- one item more, which passes
   pub least-with : (i : ℕ) → test i ≡ true → leastOf test item (i + 1) most ≡ min (item i) (leastOf test item i most)
-  least-with i e = rw (add-one i, e, leastOf)
+  least-with i e = least-more i ∙ rw e
 
   -- one item more, which fails
   pub least-without : (i : ℕ) → test i ≡ false → leastOf test item (i + 1) most ≡ leastOf test item i most
-  least-without i e = rw (add-one i, e, leastOf)
+  least-without i e = least-more i ∙ rw e
 
   least-le-most : (c : ℕ) → leastOf test item c most ≤ most
   least-le-most zero = le-refl most

@@ -10,14 +10,14 @@ use lib.Dec.{ltb}
 use lib.IntN.{ℤ, pos}
 use lib.ListN.{length, getD, List·getD-append}
 use lib.Seq.{getD-append-seam}
-use borrow.Author.Tests.{lt-ltb, ltb-true}
+use borrow.Author.Tests.{lt-ltb, ltb-true, not-false}
 use Rattle.subdivision.specs.Formula.{Formula, isEqual, implies, notSo, everyBelow, holds, Means}
 use Rattle.subdivision.specs.Sheet.{Sheet, sheetOf, edgeCount, zoneCount, aboveOf, belowOf}
 use Rattle.subdivision.specs.ZoneLine.{position, isIn, InLine, Rule7, isReady, nextZone, lengthened, lineTo, zoneLine}
 use Rattle.theory.proofs.Decide.{true-or-false, below-suc, means, held, denies, fails, broken-item, broken-implies}
 use Rattle.theory.proofs.Lowest.{lowest-passes, lowest-at-most}
 use Rattle.theory.proofs.Position.{position-kept, position-last, absent, length-snoc, in-snoc}
-use Rattle.theory.proofs.Counting.{countUnder, count-all, count-none, count-some, count-less}
+use Rattle.theory.proofs.Counting.{countUnder, count-all, count-none, none-counted, count-some, count-less}
 
 module _ (s : Sheet) where
   -- zone z is not placed yet
@@ -113,20 +113,34 @@ module _ (s : Sheet) where
   unfolding zoneLine
   place-of-entry = part-to (zoneCount s) .once
 
+  -- a line with a place for each zone places every zone
+  pub full-places : length (zoneLine s) ≡ zoneCount s → (z : ℕ) → z < zoneCount s → position z (zoneLine s) < length (zoneLine s)
+  unfolding zoneLine
+  full-places full z h =
+      means (isIn z l) (not-false (holds (isIn z l)) (count-none (zoneCount s) (unplaced l) none z h))
+    where
+      l : List ℕ
+      l = lineTo s (zoneCount s)
+
+      none : countUnder (zoneCount s) (unplaced l) ≡ 0
+      none = omega (arith, part-to (zoneCount s) .rest)
+
+  -- a line that places every zone has a place for each
+  pub places-full : ((z : ℕ) → z < zoneCount s → position z (zoneLine s) < length (zoneLine s)) → length (zoneLine s) ≡ zoneCount s
+  unfolding zoneLine
+  places-full holding = omega (arith, none, part-to (zoneCount s) .rest)
+    where
+      l : List ℕ
+      l = lineTo s (zoneCount s)
+
+      none : countUnder (zoneCount s) (unplaced l) ≡ 0
+      none = none-counted (zoneCount s) (unplaced l) (λ z h. ap not (held (isIn z l) (holding z h)))
+
   -- a line that places every zone is such a line
   pub line-kept : length (zoneLine s) ≡ zoneCount s → ((e : ℕ) → e < edgeCount s → aboveOf s e < zoneCount s) → InLine s (zoneLine s)
   unfolding zoneLine
   line-kept full named =
-      record { long = full; holding = holding; rising = λ e h. part-to (zoneCount s) .rising e h (holding (aboveOf s e) (named e h)) }
-    where
-      none : countUnder (zoneCount s) (unplaced (lineTo s (zoneCount s))) ≡ 0
-      none = omega (arith, part-to (zoneCount s) .rest)
-
-      holding : (z : ℕ) → z < zoneCount s → position z (lineTo s (zoneCount s)) < length (lineTo s (zoneCount s))
-      holding z h =
-          ⊎-elim (means (isIn z (lineTo s (zoneCount s))))
-          (λ e. absurd (denies (notSo (isIn z (lineTo s (zoneCount s)))) (count-none (zoneCount s) (unplaced (lineTo s (zoneCount s))) none z h) (denies (isIn z (lineTo s (zoneCount s))) e)))
-          (true-or-false (holds (isIn z (lineTo s (zoneCount s)))))
+      record { long = full; holding = full-places full; rising = λ e h. part-to (zoneCount s) .rising e h (full-places full (aboveOf s e) (named e h)) }
 
   -- on a sheet that some line keeps, wherever a zone is left some zone is ready
   some-ready : (k : List ℕ) → InLine s k → ((e : ℕ) → e < edgeCount s → belowOf s e < zoneCount s) → (l : List ℕ)

@@ -1,0 +1,35 @@
+-- `fans::tied::margin_tied` meets its contract.
+use mathlib.Core.Path.{sym}
+use native.Mathlib.Nat.{lt-irrefl}
+use native.Mathlib.Omega.{arith}
+use borrow.Author.Needs.{needs}
+use Rattle.theory.proofs.Decide.{held}
+use Rattle.fans.specs.Fans.{marginTied}
+use Rattle.fans.proofs.BothDrawn.{margin-meets}
+use Rattle.fans.proofs.tied.margin_tied.Statement.{statement}
+use Rattle.fans.proofs.tied.margin_tied.Tie as tie
+
+returns : tie.Need-returns
+returns c =
+    let a = c .before .before .before .before .args in
+    sym (held (marginTied (a .vertices .now) (a .edges .now) (a .under .now) (a .over .now)) (λ d. absurd (lt-irrefl 0 (omega (arith, c .if1 .taken, d .0)))))
+
+returns-2 : tie.Need-returns-2
+returns-2 c =
+    let a = c .before .before .before .before .before .args in
+    sym (held (marginTied (a .vertices .now) (a .edges .now) (a .under .now) (a .over .now)) (λ d. absurd (lt-irrefl 0 (omega (arith, c .if2 .taken, d .1)))))
+
+zone-over-requires : tie.Need-zone-over-requires
+zone-over-requires c κs = search needs
+
+zone-under-requires : tie.Need-zone-under-requires
+zone-under-requires c κs = search needs
+
+returns-3 : tie.Need-returns-3
+returns-3 c =
+    let a = c .before .before .before .before .before .before .before .args in
+    rw (c .before .zone-over .ensures, c .zone-under .ensures) (margin-meets (a .vertices .now) (a .edges .now) (a .under .now) (a .over .now) (c .before .before .before .if1 .left) (c .before .before .if2 .left))
+
+pub margin-tied-spec : {M : Type 1} → statement M
+margin-tied-spec =
+    tie.close (tie.spec returns returns-2 zone-over-requires zone-under-requires returns-3)

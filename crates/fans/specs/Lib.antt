@@ -1,0 +1,2 @@
+-- What the functions of `fans` compute.
+pub mod Fans

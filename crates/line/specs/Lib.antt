@@ -1,0 +1,2 @@
+-- What the private functions of `line` promise.
+pub mod Waiting

@@ -1,0 +1,38 @@
+-- Words written one after the other to the front of lent ones, and the four parts of an index.
+use mathlib.Core.Path.{_≡_, sym, _∙_}
+use mathlib.Core.List.{List, _++_, append-assoc}
+use Prim.Native.Nat.{ℕ, suc, _+_, _≤_}
+use native.Mathlib.Nat.{zero-add}
+use native.Mathlib.Omega.{arith}
+use lib.ListN.{length, take, drop, replicate, length-append, length-replicate}
+use lib.Seq.{length-take-le, take-append-seam, drop-append-add, drop-drop}
+use Rattle.subdivision.specs.Lists.{put}
+use Rattle.subdivision.specs.Layout.{zoneWord, startWord, entryWord}
+
+-- a list with words written over it from a place on
+abbrev pub over : List ℕ → List ℕ → ℕ → List ℕ
+over words lent at = take at lent ++ (words ++ drop (at + length words) lent)
+
+-- words written where those before them end
+pub put-more : (done words lent : List ℕ) (at : ℕ) → at ≡ length done → over words (put done lent) at ≡ put (done ++ words) lent
+put-more done words lent at e =
+    rw (e, take-append-seam, drop-append-add, drop-drop, append-assoc, length-append)
+
+-- the four parts of an index, each written where Layout.antt has it
+pub parts-put : (place line starts entries lent first second third fourth : List ℕ) (a b c : ℕ)
+    → length place ≡ length line → length starts ≡ suc (length line)
+    → a ≡ zoneWord (length line) 0 → b ≡ startWord (length line) 0 → c ≡ entryWord (length line) 0
+    → first ≡ over place lent 0 → second ≡ over line first a → third ≡ over starts second b → fourth ≡ over entries third c
+    → fourth ≡ put (place ++ (line ++ (starts ++ entries))) lent
+parts-put place line starts entries lent first second third fourth a b c long more p q r e f g h =
+    let one : first ≡ put place lent = e ∙ rw zero-add in
+    let two : second ≡ put (place ++ line) lent = f ∙ rw one (put-more place line lent a (omega arith)) in
+    let three : third ≡ put (place ++ line ++ starts) lent =
+    g ∙ rw two (put-more (place ++ line) starts lent b (omega (arith, length-append place line))) in
+    let four : fourth ≡ put (place ++ line ++ starts ++ entries) lent =
+    h ∙ rw three (put-more (place ++ line ++ starts) entries lent c (omega (arith, length-append place line, length-append (place ++ line) starts))) in
+    rw (append-assoc (place ++ line) starts entries, append-assoc place line (starts ++ entries)) at four
+
+-- a part of a table of zeros is as long as asked
+pub zeros-part : (room n : ℕ) → n ≤ room → n ≡ length (take n (replicate {A = ℕ} room 0))
+zeros-part room n h = sym (length-take-le n (replicate {A = ℕ} room 0) (rw length-replicate h))

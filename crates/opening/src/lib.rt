@@ -1,0 +1,2 @@
+// Opening a sheet: the judgement, then the index.
+pub mod index;

@@ -1,0 +1,35 @@
+-- When each refusal is given, as a statement: document 01, "Why the desk refuses". No test is mentioned here, only what the rules say.
+use mathlib.Core.Path.{_≡_}
+use mathlib.Core.List.{List, [], _∷_, _++_}
+use mathlib.Core.Logic.{_⊎_}
+use Prim.Native.Nat.{ℕ, _<_}
+use Rattle.subdivision.specs.Formula.{Formula, Means}
+use Rattle.subdivision.specs.Sheet.{Sheet}
+use Rattle.subdivision.specs.Refusals.{Refusal, limitRefusals, roomRefusal, ruleRefusals}
+
+-- the named item breaks the clause, and no lower one does
+pub record LowestFault (clause : ℕ → Formula) (items item : ℕ) : Type 0 where
+  pub within : item < items
+  pub broken : Means (clause item) → ⊥
+  pub lower : (k : ℕ) → k < item → Means (clause k)
+
+-- the item that a line of the table names: 0 where it names none, and otherwise the lowest at fault
+abbrev pub Named : Refusal → ℕ → Type 0
+Named r item = ((r .items ≡ 0) × (item ≡ 0)) ⊎ LowestFault (r .clause) (r .items) item
+
+-- a line's fault is there: what it asks is not kept, and the number and the item are its own
+abbrev pub FaultOf : Refusal → ℕ → ℕ → Type 0
+FaultOf r number item = (number ≡ r .number) × ((Means (r .kept) → ⊥) × Named r item)
+
+-- of lines in a call's order, the first whose fault is there gives this number and item: its own fault is there, and no earlier line's is
+abbrev pub GivenBy : List Refusal → ℕ → ℕ → Type 0
+GivenBy [] number item = ⊥
+GivenBy (r ∷ rs) number item = FaultOf r number item ⊎ (Means (r .kept) × GivenBy rs number item)
+
+-- the lines of the table that opening checks, in order: 1 to 13
+abbrev pub openingRefusals : Sheet → ℕ → List Refusal
+openingRefusals s words = limitRefusals s ++ (roomRefusal s words ∷ ruleRefusals s)
+
+-- the lines of the table about the tables alone, in order: 1, 2, 4 to 13
+abbrev pub tableRefusals : Sheet → List Refusal
+tableRefusals s = limitRefusals s ++ ruleRefusals s

@@ -1,0 +1,110 @@
+-- The judgement gives a refusal exactly when its own line of the table says so, and passes exactly the sheets that keep every line.
+use mathlib.Core.Path.{_≡_, refl, sym, _∙_}
+use mathlib.Core.Bool.{Bool, true, false, not}
+use mathlib.Core.List.{List, [], _∷_, _++_}
+use mathlib.Core.Logic.{_⊎_, inl, inr, ⊎-elim, _↔_}
+use Prim.Native.Nat.{ℕ, _<_, _≤_}
+use native.Mathlib.Omega.{arith}
+use Rattle.subdivision.specs.declared.Verdict.{Verdict}
+use Rattle.subdivision.specs.Formula.{Formula, holds, Means}
+use Rattle.subdivision.specs.Lowest.{lowest}
+use Rattle.subdivision.specs.Sheet.{Sheet, vertexCount, edgeCount, zoneCount, aboveOf, belowOf}
+use Rattle.subdivision.specs.Rules.{vertexInside, vertexNew, edgeNames, edgeRuns, zonesDiffer, vertexRegular, edgeClear, namesAgree, zoneNamed}
+use Rattle.subdivision.specs.Layout.{indexNeed}
+use Rattle.subdivision.specs.ZoneLine.{isIn, zoneLine}
+use Rattle.subdivision.specs.Refusals.{Refusal, names, unnamed, forEach, judged, countsKept, marginsKept, roomRefusal, circleRefusal, ruleRefusals}
+use Rattle.subdivision.specs.Faults.{LowestFault, Named, FaultOf, GivenBy, openingRefusals, tableRefusals}
+use Rattle.subdivision.specs.Accepted.{Accepted}
+use Rattle.theory.proofs.Decide.{true-or-false, means, held, denies, fails}
+use Rattle.theory.proofs.Lowest.{is-lowest, lowest-le}
+use Rattle.theory.proofs.Judgement.{AllKept, passed-keeps, kept-passes, lowest-fault, names-lowest, accepted-decides}
+use Rattle.theory.proofs.Circles.{line-full, circle-named}
+
+-- an item that a line names is the one that the judgement names
+named-one : (r : Refusal) (item : ℕ) → Named r item → item ≡ names r
+named-one r item (inl (none, e)) = omega (arith, lowest-le (λ k. not (holds (r .clause k))) (r .items))
+named-one r item (inr f) =
+    sym (is-lowest (record { within = omega (arith, f .within); before = λ k h. fault-kept k (f .lower k h); passes = λ h. fault-broken (fails (r .clause item) (f .broken)) }))
+  where
+    fault-kept : (k : ℕ) → Means (r .clause k) → not (holds (r .clause k)) ≡ false
+    fault-kept k m = λ i. not (held (r .clause k) m i)
+
+    fault-broken : holds (r .clause item) ≡ false → not (holds (r .clause item)) ≡ true
+    fault-broken e = λ i. not (e i)
+
+-- the judgement names the right item of each line, where the lines before it are kept
+abbrev pub Sound : List Refusal → Type 0
+Sound [] = Unit {0}
+Sound (r ∷ rs) = ((Means (r .kept) → ⊥) → Named r (names r)) × (Means (r .kept) → Sound rs)
+
+-- what is given is what the lines say
+pub given-says : (rs : List Refusal) → Sound rs → (number item : ℕ) → judged rs ≡ Verdict.Refused number item → GivenBy rs number item
+given-says [] s number item e = let never : _≡_ {A = ℕ} 0 1 = cc in absurd (omega arith)
+given-says (r ∷ rs) s number item e = go (holds (r .kept)) refl e (λ m. given-says rs (s .1 m) number item)
+  where
+    go : (b : Bool) → holds (r .kept) ≡ b
+        → _≡_ {A = Verdict} (elim b [ true ↦ judged rs | false ↦ Verdict.Refused (r .number) (names r) ]) (Verdict.Refused number item)
+        → (Means (r .kept) → judged rs ≡ Verdict.Refused number item → GivenBy rs number item) → GivenBy (r ∷ rs) number item
+    go true h p rest = inr (means (r .kept) h, rest (means (r .kept) h) p)
+    go false h p rest =
+        let same : item ≡ names r = cc in
+        inl (cc, (denies (r .kept) h, rw same (s .0 (denies (r .kept) h))))
+
+-- what the lines say is given
+pub says-given : (rs : List Refusal) (number item : ℕ) → GivenBy rs number item → judged rs ≡ Verdict.Refused number item
+says-given [] number item g = absurd g
+says-given (r ∷ rs) number item (inl f) =
+    rw (fails (r .kept) (f .1 .0), judged) (λ i. Verdict.Refused (sym (f .0) i) (sym (named-one r item (f .1 .1)) i))
+says-given (r ∷ rs) number item (inr g) = rw (held (r .kept) (g .0), judged) (says-given rs number item (g .1))
+
+-- a line that names nothing names nothing
+unnamed-sound : (number : ℕ) (kept : Formula) → Named (unnamed number kept) (names (unnamed number kept))
+unnamed-sound number kept = inl (refl, omega (arith, lowest-le (λ k. not (holds kept)) 0))
+
+module _ (s : Sheet) where
+  -- refusal 13 names the lowest zone with a circle at it or below it
+  pub circle-lowest : ((e : ℕ) → e < edgeCount s → (aboveOf s e < zoneCount s) × (belowOf s e < zoneCount s))
+      → (Means (circleRefusal s .kept) → ⊥) → LowestFault (circleRefusal s .clause) (zoneCount s) (names (circleRefusal s))
+  circle-lowest named stuck = lowest-fault (zoneCount s) (circleRefusal s .clause) below
+    where
+      left : ℕ
+      left = lowest (λ z. not (holds (isIn z (zoneLine s)))) (zoneCount s)
+
+      below : names (circleRefusal s) < zoneCount s
+      below =
+          omega (arith, circle-named s named, lowest-le (λ z. not (holds (isIn z (zoneLine s)))) (zoneCount s), full)
+        where
+          full : left ≡ zoneCount s → ⊥
+          full e = stuck (line-full s named .1 e)
+
+  rules-sound : Sound (ruleRefusals s)
+  rules-sound =
+      (each 4 (vertexCount s) (vertexInside s), λ k4. (each 5 (vertexCount s) (vertexNew s), λ k5. (each 6 (edgeCount s) (edgeNames s), λ k6. (each 7 (edgeCount s) (edgeRuns s), λ k7. (each 8 (edgeCount s) (zonesDiffer s), λ k8. (each 9 (vertexCount s) (vertexRegular s), λ k9. (each 10 (edgeCount s) (edgeClear s), λ k10. (each 11 (vertexCount s) (namesAgree s), λ k11. (each 12 (zoneCount s) (zoneNamed s), λ k12. ((λ f. inr (circle-lowest (λ e h. k6 e h .1) f)), λ k13. tt))))))))))
+    where
+      each : (number items : ℕ) (clause : ℕ → Formula) → (Means (forEach number items clause .kept) → ⊥)
+          → Named (forEach number items clause) (names (forEach number items clause))
+      each number items clause f = inr (names-lowest number items clause f)
+
+  -- each refusal about the tables is given exactly when its own line says so
+  pub table-refused-exactly : (number item : ℕ) → (judged (tableRefusals s) ≡ Verdict.Refused number item) ↔ GivenBy (tableRefusals s) number item
+  table-refused-exactly number item =
+      (given-says (tableRefusals s) (λ f. unnamed-sound 1 (countsKept s), λ k1. (λ f. unnamed-sound 2 (marginsKept s), λ k2. rules-sound)) number item, says-given (tableRefusals s) number item)
+
+  module _ (words : ℕ) where
+    -- each refusal of opening is given exactly when its own line says so
+    pub refused-exactly : (number item : ℕ) → (judged (openingRefusals s words) ≡ Verdict.Refused number item) ↔ GivenBy (openingRefusals s words) number item
+    refused-exactly number item =
+        (given-says (openingRefusals s words) (λ f. unnamed-sound 1 (countsKept s), λ k1. (λ f. unnamed-sound 2 (marginsKept s), λ k2. (λ f. unnamed-sound 3 (roomRefusal s words .kept), λ k3. rules-sound))) number item, says-given (openingRefusals s words) number item)
+
+    -- a sheet is opened exactly when it is accepted and the index has room
+    pub opened-exactly : (judged (openingRefusals s words) ≡ Verdict.Passed) ↔ (Accepted s × (indexNeed (zoneCount s) (edgeCount s) ≤ words))
+    opened-exactly = (λ e. accept (passed-keeps (openingRefusals s words) e), λ a. kept-passes (openingRefusals s words) (keep a))
+      where
+        accept : AllKept (openingRefusals s words) → Accepted s × (indexNeed (zoneCount s) (edgeCount s) ≤ words)
+        accept (k1, (k2, (k3, rest))) = (accepted-decides s .0 (kept-passes (tableRefusals s) (k1, (k2, rest))), k3)
+
+        keep : Accepted s × (indexNeed (zoneCount s) (edgeCount s) ≤ words) → AllKept (openingRefusals s words)
+        keep (a, room) = go (passed-keeps (tableRefusals s) (accepted-decides s .1 a))
+          where
+            go : AllKept (tableRefusals s) → AllKept (openingRefusals s words)
+            go (k1, (k2, rest)) = (k1, (k2, (room, rest)))
