@@ -2,8 +2,8 @@
 use mathlib.Core.Path.{_≡_}
 use mathlib.Core.Bool.{Bool, true, false, not}
 use mathlib.Core.List.{List, [], _∷_}
-use Prim.Native.Nat.{ℕ, zero, suc, _-_, _/_, min}
-use lib.Dec.{eqb, ltb}
+use Prim.Native.Nat.{ℕ, suc, _-_, _/_, min}
+use lib.Dec.{eqb}
 use lib.IntN.{ℤ}
 use lib.ListN.{length, getD}
 use Rattle.subdivision.specs.Formula.{Formula, isLess, isEqual, both, either, implies, notSo, everyBelow, holds}
@@ -88,6 +88,10 @@ module _ (vertices : List ℤ) (edges : List ℕ) where
   marginTied under over =
       implies (bothDrawn under over) (isEqual (edgeAbove edges (furthest true true under)) (edgeBelow edges (furthest true false over)))
 
+-- the zone above edge e, or the one below it
+abbrev pub zoneBeside : List ℕ → Bool → ℕ → ℕ
+zoneBeside edges above e = elim above [ true ↦ edgeAbove edges e | false ↦ edgeBelow edges e ]
+
 -- the edges in order of their fans on one side: of the vertex that has them there, then of number
 abbrev pub fanOrder : List ℕ → Bool → List ℕ
 fanOrder edges eastern = inOrder (fanKey edges eastern) (length edges / 4)
@@ -109,12 +113,16 @@ pointOrder vertices count = inOrder (λ v. pairKey (vertexX vertices v) (vertexY
 abbrev pub vertexFault : List ℤ → List ℕ → ℕ → Bool
 vertexFault vertices edges v = not (holds (vertexTied vertices edges (fanOf edges false v) (fanOf edges true v)))
 
+-- rule 5 is broken on the margin by two vertices, the one after the other in order
+abbrev pub faultBetween : ℕ → List ℤ → List ℕ → ℕ → ℕ → Bool
+faultBetween west vertices edges under over =
+    holds
+    (both (both (isEqual (vertexX vertices under) west) (isEqual (vertexX vertices over) west))
+    (notSo (marginTied vertices edges (fanOf edges true under) (fanOf edges true over))))
+
 -- rule 5 is broken on the margin by the vertices at a place and at the next place of a list
 abbrev pub marginFault : ℕ → List ℤ → List ℕ → List ℕ → ℕ → Bool
-marginFault west vertices edges points i =
-    holds
-    (both (both (isEqual (vertexX vertices (getD points i 0)) west) (isEqual (vertexX vertices (getD points (suc i) 0)) west))
-    (notSo (marginTied vertices edges (fanOf edges true (getD points i 0)) (fanOf edges true (getD points (suc i) 0)))))
+marginFault west vertices edges points i = faultBetween west vertices edges (getD points i 0) (getD points (suc i) 0)
 
 -- the lowest vertex at which rule 5 is broken; the number of vertices where it is not
 abbrev pub namesFault : ℕ → List ℤ → List ℕ → ℕ

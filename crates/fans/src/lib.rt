@@ -1,6 +1,7 @@
 // Rule 5, names agree: refusal 11.
 use geometry::tables::shifted;
 use geometry::tables::vertex_x;
+use geometry::tables::word;
 use subdivision::MAX_EDGES;
 use subdivision::MAX_VERTICES;
 ghost use mathlib.Core.Path.{_≡_};
@@ -14,7 +15,7 @@ ghost use Rattle.subdivision.specs.Sheet.{sheetOf, vertexCount};
 ghost use Rattle.subdivision.specs.Rules.{namesAgree};
 ghost use Rattle.subdivision.specs.Accepted.{Rule1, Rule2, Rule4};
 ghost use Rattle.theory.proofs.Lowest.{leastOf};
-ghost use Rattle.fans.specs.Fans.{AreFans, fanOf, marginTied, vertexFault, marginFault, pointOrder, namesFault};
+ghost use Rattle.fans.specs.Fans.{AreFans, fanOf, marginTied, vertexFault, faultBetween, marginFault, pointOrder, namesFault};
 
 mod order;
 mod tied;
@@ -134,10 +135,10 @@ fn untied_at(
     ensures { λ r. ⌜ r ≡ vertexFault (now (vertices .entry)) (now (edges .entry)) v ⌝ }
 {
     let k = v as usize;
-    let a = place(wstarts, k);
-    let b = place(wstarts, k + 1);
-    let c = place(estarts, k);
-    let d = place(estarts, k + 1);
+    let a = word(wstarts, k) as usize;
+    let b = word(wstarts, k + 1) as usize;
+    let c = word(estarts, k) as usize;
+    let d = word(estarts, k + 1) as usize;
     !tied::vertex_tied(vertices, edges, &western[a..b], &eastern[c..d])
 }
 
@@ -160,31 +161,30 @@ fn first_on_margin(
     let mut least = count;
     let mut i = 0;
     while i + 1 < n {
-        if margin_fault(west, vertices, edges, points, i, eastern, starts) {
-            least = smaller(points[i], least);
+        let under = points[i];
+        let over = points[i + 1];
+        if margin_fault(west, vertices, edges, eastern, starts, under, over) {
+            least = smaller(under, least);
         }
         i += 1;
     }
     least
 }
 
-// Whether rule 5 is broken on the margin by the vertices at place i of `points` and at the next place.
+// Whether rule 5 is broken on the margin by two vertices, the one after the other in order.
 fn margin_fault(
     west: u32,
     vertices: &[i32],
     edges: &[u32],
-    points: &[u32],
-    i: usize,
     eastern: &[u32],
     starts: &[u32],
+    under: u32,
+    over: u32,
 ) -> bool
-    requires { ⌜ i + 1 < length (now points) ⌝ }
-    requires { ⌜ (getD (now points) i 0 + 1 < length (now starts)) × (getD (now points) (i + 1) 0 + 1 < length (now starts)) ⌝ }
+    requires { ⌜ (under + 1 < length (now starts)) × (over + 1 < length (now starts)) ⌝ }
     requires { ⌜ AreFans (now edges) true (now eastern) (now starts) ⌝ }
-    ensures { λ r. ⌜ r ≡ marginFault west (now (vertices .entry)) (now (edges .entry)) (now (points .entry)) i ⌝ }
+    ensures { λ r. ⌜ r ≡ faultBetween west (now (vertices .entry)) (now (edges .entry)) under over ⌝ }
 {
-    let under = points[i];
-    let over = points[i + 1];
     if vertex_x(vertices, under) != west {
         return false;
     }
@@ -209,21 +209,11 @@ fn tied_over(
 {
     let v = under as usize;
     let u = over as usize;
-    let a = place(starts, v);
-    let b = place(starts, v + 1);
-    let c = place(starts, u);
-    let d = place(starts, u + 1);
+    let a = word(starts, v) as usize;
+    let b = word(starts, v + 1) as usize;
+    let c = word(starts, u) as usize;
+    let d = word(starts, u + 1) as usize;
     tied::margin_tied(vertices, edges, &eastern[a..b], &eastern[c..d])
-}
-
-// Where the fan of vertex k starts; 0 past the last start.
-fn place(starts: &[u32], k: usize) -> usize
-    ensures { λ r. ⌜ r ≡ getD (now (starts .entry)) k 0 ⌝ }
-{
-    if k < starts.len() {
-        return starts[k] as usize;
-    }
-    0
 }
 
 // The smaller of two numbers.

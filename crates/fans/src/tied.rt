@@ -3,10 +3,8 @@ use geometry::tables::edge_above;
 use geometry::tables::edge_below;
 use geometry::tables::segment;
 ghost use mathlib.Core.Path.{_≡_};
-ghost use mathlib.Core.Bool.{true, false};
 ghost use Rattle.subdivision.specs.Formula.{holds};
-ghost use Rattle.subdivision.specs.Sheet.{edgeAbove, edgeBelow};
-ghost use Rattle.fans.specs.Fans.{isUnder, goesOn, furthest, nearer, nextIn, tied, fanTied, fansTied, vertexTied, marginTied};
+ghost use Rattle.fans.specs.Fans.{isUnder, goesOn, furthest, nearer, nextIn, tied, fanTied, fansTied, vertexTied, marginTied, zoneBeside};
 
 // Rule 5 at a vertex, from its two fans, but for the margin.
 pub fn vertex_tied(vertices: &[i32], edges: &[u32], western: &[u32], eastern: &[u32]) -> bool
@@ -31,8 +29,8 @@ pub fn margin_tied(vertices: &[i32], edges: &[u32], under: &[u32], over: &[u32])
     if over.len() == 0 {
         return true;
     }
-    let above = zone_over(vertices, edges, true, under);
-    let below = zone_under(vertices, edges, true, over);
+    let above = outer_zone(vertices, edges, true, true, under);
+    let below = outer_zone(vertices, edges, true, false, over);
     above == below
 }
 
@@ -60,28 +58,32 @@ fn fans_tied(vertices: &[i32], edges: &[u32], western: &[u32], eastern: &[u32]) 
     if eastern.len() == 0 {
         return true;
     }
-    let above_west = zone_over(vertices, edges, false, western);
-    let above_east = zone_over(vertices, edges, true, eastern);
+    let above_west = outer_zone(vertices, edges, false, true, western);
+    let above_east = outer_zone(vertices, edges, true, true, eastern);
     if above_west == above_east {
-        let below_west = zone_under(vertices, edges, false, western);
-        let below_east = zone_under(vertices, edges, true, eastern);
+        let below_west = outer_zone(vertices, edges, false, false, western);
+        let below_east = outer_zone(vertices, edges, true, false, eastern);
         return below_west == below_east;
     }
     false
 }
 
-// The zone above the top edge of a fan.
-fn zone_over(vertices: &[i32], edges: &[u32], eastern: bool, fan: &[u32]) -> u32
-    ensures { λ r. ⌜ r ≡ edgeAbove (now (edges .entry)) (furthest (now (vertices .entry)) (now (edges .entry)) eastern true (now (fan .entry))) ⌝ }
+// The zone above the top edge (up) of a fan, or the one below its bottom edge.
+fn outer_zone(vertices: &[i32], edges: &[u32], eastern: bool, up: bool, fan: &[u32]) -> u32
+    ensures { λ r. ⌜ r ≡ zoneBeside (now (edges .entry)) up (furthest (now (vertices .entry)) (now (edges .entry)) eastern up (now (fan .entry))) ⌝ }
 {
-    edge_above(edges, furthest(vertices, edges, eastern, true, fan))
+    let e = furthest(vertices, edges, eastern, up, fan);
+    zone_beside(edges, up, e)
 }
 
-// The zone below the bottom edge of a fan.
-fn zone_under(vertices: &[i32], edges: &[u32], eastern: bool, fan: &[u32]) -> u32
-    ensures { λ r. ⌜ r ≡ edgeBelow (now (edges .entry)) (furthest (now (vertices .entry)) (now (edges .entry)) eastern false (now (fan .entry))) ⌝ }
+// The zone above edge e, or the one below it.
+fn zone_beside(edges: &[u32], above: bool, e: u32) -> u32
+    ensures { λ r. ⌜ r ≡ zoneBeside (now (edges .entry)) above e ⌝ }
 {
-    edge_below(edges, furthest(vertices, edges, eastern, false, fan))
+    if above {
+        return edge_above(edges, e);
+    }
+    edge_below(edges, e)
 }
 
 // Edge e is the top of its fan, or its zone above is the next one's zone below.

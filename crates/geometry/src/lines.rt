@@ -163,9 +163,9 @@ pub fn conflict(g: Segment, h: Segment) -> bool
 pub fn lower_beside(eastern: bool, g: Segment, h: Segment) -> bool
     ensures { λ r. ⌜ r ≡ holds (lowerBeside eastern g h) ⌝ }
 {
-    let a = larger(g.xw, h.xw);
-    let b = smaller(g.xe, h.xe);
-    if b <= a {
+    let from = larger(g.xw, h.xw);
+    let to = smaller(g.xe, h.xe);
+    if to <= from {
         return false;
     }
     if eastern {

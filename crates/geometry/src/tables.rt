@@ -23,7 +23,7 @@ fn coordinate(vertices: &[i32], at: usize) -> u32
 }
 
 // The word at a place of a table: 0 past its end.
-fn word(table: &[u32], at: usize) -> u32
+pub fn word(table: &[u32], at: usize) -> u32
     ensures { λ r. ⌜ r ≡ getD (now (table .entry)) at 0 ⌝ }
 {
     if at < table.len() {

@@ -21,7 +21,7 @@ ghost use Rattle.subdivision.specs.Formula.{holds};
 ghost use Rattle.subdivision.specs.Lists.{put, tab};
 ghost use Rattle.subdivision.specs.Lowest.{lowest};
 ghost use Rattle.subdivision.specs.Order.{inOrder};
-ghost use Rattle.subdivision.specs.Sheet.{sheetOf, edgeAbove, edgeBelow};
+ghost use Rattle.subdivision.specs.Sheet.{sheetOf};
 ghost use Rattle.subdivision.specs.ZoneLine.{isIn, zoneLine};
 ghost use Rattle.theory.proofs.Groups.{groupStart, group};
 ghost use Rattle.line.specs.Waiting.{zonesOf, belowKey, waitOf, lowered};
@@ -30,7 +30,6 @@ ghost use Rattle.line.specs.Waiting.{zonesOf, belowKey, waitOf, lowered}
 // it does not place; `zones` where it places all.
 pub fn zone_line(edges: &[u32], zones: u32, line: &mut [u32]) -> u32
     requires { ⌜ ((length (now edges) / 4 ≤ maxEdges) × (zones ≤ maxZones)) × (zones ≤ length (now line)) ⌝ }
-    requires { ⌜ ((e : ℕ) → e < length (now edges) / 4 → (edgeAbove (now edges) e < zones) × (edgeBelow (now edges) e < zones)) ⌝ }
     ensures written { λ _. ⌜ now (line .exit) ≡ put (zoneLine (sheetOf (pos 0) (pos 0) [] (now (edges .entry)) zones)) (now (line .entry)) ⌝ }
     ensures left { λ r. ⌜ r ≡ lowest (λ z. not (holds (isIn z (zoneLine (sheetOf (pos 0) (pos 0) [] (now (edges .entry)) zones))))) zones ⌝ }
 {
@@ -48,8 +47,8 @@ pub fn zone_line(edges: &[u32], zones: u32, line: &mut [u32]) -> u32
     )
 }
 
-// Writes the line to the front of `line`, with places lent for each edge, for each zone and one more,
-// and for each zone; and gives the lowest zone that it does not place, the number of zones where it places all.
+// The line and the lowest zone left, as `zone_line` gives them, with storage lent: `order` has a place
+// for each edge, `begin` one for each zone and one more, `waits` one for each zone.
 fn make_line(
     edges: &[u32],
     order: &mut [u32],

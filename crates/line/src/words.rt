@@ -86,7 +86,7 @@ fn lower(waits: &mut [u32], zone: u32, cursor: u32) -> u32
     cursor
 }
 
-// The lowest zone from `cursor` on that is ready; the number of zones where none is.
+// The lowest zone from `cursor` on that is ready; the number of zones where none is, or `cursor` past it.
 pub fn next_ready(waits: &[u32], cursor: u32) -> u32
     requires { ⌜ length (now waits) ≤ 4294967295 ⌝ }
     ensures { λ r. ⌜ r ≡ lowestFrom (λ z. eqb (getD (now (waits .entry)) z 0) 1) (length (now (waits .entry)) - cursor) cursor ⌝ }

@@ -3,3 +3,4 @@ pub mod Keys
 pub mod Packed
 pub mod Parts
 pub mod Places
+pub mod Promises

@@ -2,9 +2,11 @@ use geometry::tables::edge_above;
 use geometry::tables::edge_below;
 use geometry::tables::edge_west;
 use geometry::tables::vertex_x;
+use geometry::tables::word;
 use numbers::dyadic::lca;
 use numbers::groups;
 use numbers::order::sort;
+use numbers::words::write;
 use subdivision::MAX_EDGES;
 use subdivision::MAX_ZONES;
 ghost use mathlib.Core.Path.{_≡_};
@@ -22,6 +24,14 @@ ghost use Rattle.subdivision.specs.ZoneLine.{position};
 ghost use Rattle.theory.proofs.Groups.{groupStart};
 ghost use Rattle.opening.specs.Keys.{placedKey};
 ghost use Rattle.opening.specs.Packed.{packed};
+
+// The words that the index of n zones and m edges needs.
+pub fn need(n: usize, m: usize) -> usize
+    requires { ⌜ (n ≤ maxZones) × (m ≤ maxEdges) ⌝ }
+    ensures { λ r. ⌜ r ≡ indexNeed n m ⌝ }
+{
+    3 * n + m + 1
+}
 
 // Writes the index of the tables and a line of their zones to the front of `index`; what is past it stays.
 pub fn write_index(vertices: &[i32], edges: &[u32], line: &[u32], index: &mut [u32])
@@ -90,18 +100,6 @@ fn store(table: &mut [u32], at: u32, word: u32)
     }
 }
 
-// Writes `words` over `index` from `at` on; what is before and past them stays.
-fn write(words: &[u32], index: &mut [u32], at: usize)
-    requires { ⌜ at + length (now words) ≤ length (now index) ⌝ }
-    ensures { λ _. ⌜ now (index .exit) ≡ take at (now (index .entry)) ++ (now (words .entry) ++ drop (at + length (now (words .entry))) (now (index .entry))) ⌝ }
-{
-    let mut i = 0;
-    while i < words.len() {
-        index[at + i] = words[i];
-        i += 1;
-    }
-}
-
 // Writes the four parts of the index to its front, one after the other.
 fn parts(place: &[u32], line: &[u32], starts: &[u32], entries: &[u32], index: &mut [u32])
     requires { ⌜ ((length (now place) ≡ length (now line)) × (length (now starts) ≡ suc (length (now line)))) × (indexNeed (length (now line)) (length (now entries)) ≤ length (now index)) ⌝ }
@@ -146,19 +144,8 @@ fn chain_keys(vertices: &[i32], edges: &[u32], place: &[u32], keys: &mut [u64])
 fn chain_key(vertices: &[i32], edges: &[u32], place: &[u32], e: u32) -> u64
     ensures { λ r. ⌜ r ≡ placedKey (now (vertices .entry)) (now (edges .entry)) (now (place .entry)) e ⌝ }
 {
-    let below = place_at(place, edge_below(edges, e));
-    let above = place_at(place, edge_above(edges, e));
+    let below = word(place, edge_below(edges, e) as usize);
+    let above = word(place, edge_above(edges, e) as usize);
     let x = vertex_x(vertices, edge_west(edges, e));
     (lca(below, above) as u64) * 4294967296 + (x as u64)
-}
-
-// The place of zone z; 0 past the last zone.
-fn place_at(place: &[u32], z: u32) -> u32
-    ensures { λ r. ⌜ r ≡ getD (now (place .entry)) z 0 ⌝ }
-{
-    let i = z as usize;
-    if i < place.len() {
-        return place[i];
-    }
-    0
 }

@@ -97,6 +97,17 @@ module _ (s : Sheet) where
     within : zone < zoneCount s
     left : position zone (zoneLine s) < length (zoneLine s) → ⊥
 
+  -- the line used has every place filled exactly when no zone is left
+  pub line-full : (length (zoneLine s) ≡ zoneCount s) ↔ (lowest (λ z. not (holds (isIn z (zoneLine s)))) (zoneCount s) ≡ zoneCount s)
+  line-full = (fills, filled)
+    where
+      fills : length (zoneLine s) ≡ zoneCount s → lowest (λ z. not (holds (isIn z (zoneLine s)))) (zoneCount s) ≡ zoneCount s
+      fills full =
+          lowest-none (λ z. not (holds (isIn z (zoneLine s)))) (zoneCount s) (λ z h. ap not (held (isIn z (zoneLine s)) (full-places s full z h)))
+
+      filled : lowest (λ z. not (holds (isIn z (zoneLine s)))) (zoneCount s) ≡ zoneCount s → length (zoneLine s) ≡ zoneCount s
+      filled e = places-full s (lowest-all-means (zoneCount s) (λ z. isIn z (zoneLine s)) e)
+
   module _ (named : (e : ℕ) → e < edgeCount s → (aboveOf s e < zoneCount s) × (belowOf s e < zoneCount s)) where
     -- an edge under a zone that is left, with another such zone below it
     edge-under : (z : Left) → (e : ℕ) × (e < edgeCount s) × ((aboveOf s e ≡ z .zone) × (position (belowOf s e) (zoneLine s) < length (zoneLine s) → ⊥))
@@ -159,17 +170,6 @@ module _ (s : Sheet) where
         (λ e. held (notSo (aboveCircle s z)) (placed-clear z (means (isIn z (zoneLine s)) e)) ∙ sym e)
         (λ e. fails (notSo (aboveCircle s z)) (λ f. f (left-circle (record { zone = z; within = h; left = denies (isIn z (zoneLine s)) e }))) ∙ sym e)
         (true-or-false (holds (isIn z (zoneLine s))))
-
-    -- the line used has every place filled exactly when no zone is left
-    pub line-full : (length (zoneLine s) ≡ zoneCount s) ↔ (lowest (λ z. not (holds (isIn z (zoneLine s)))) (zoneCount s) ≡ zoneCount s)
-    line-full = (fills, filled)
-      where
-        fills : length (zoneLine s) ≡ zoneCount s → lowest (λ z. not (holds (isIn z (zoneLine s)))) (zoneCount s) ≡ zoneCount s
-        fills full =
-            lowest-none (λ z. not (holds (isIn z (zoneLine s)))) (zoneCount s) (λ z h. ap not (held (isIn z (zoneLine s)) (full-places s full z h)))
-
-        filled : lowest (λ z. not (holds (isIn z (zoneLine s)))) (zoneCount s) ≡ zoneCount s → length (zoneLine s) ≡ zoneCount s
-        filled e = places-full s (lowest-all-means (zoneCount s) (λ z. isIn z (zoneLine s)) e)
 
     -- refusal 13 names the lowest zone that the line leaves unplaced
     pub circle-named : lowest (λ z. not (holds (isIn z (zoneLine s)))) (zoneCount s) ≡ names (circleRefusal s)

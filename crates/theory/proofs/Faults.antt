@@ -17,7 +17,7 @@ use Rattle.subdivision.specs.Faults.{LowestFault, Named, FaultOf, GivenBy, open
 use Rattle.subdivision.specs.Accepted.{Accepted}
 use Rattle.theory.proofs.Decide.{true-or-false, means, held, denies, fails}
 use Rattle.theory.proofs.Lowest.{is-lowest, lowest-le}
-use Rattle.theory.proofs.Judgement.{AllKept, passed-keeps, kept-passes, lowest-fault, names-lowest, accepted-decides}
+use Rattle.theory.proofs.Judgement.{AllKept, passed-keeps, kept-passes, none-named, lowest-fault, names-lowest, accepted-decides}
 use Rattle.theory.proofs.Circles.{line-full, circle-named}
 
 -- an item that a line names is the one that the judgement names
@@ -59,7 +59,7 @@ says-given (r ∷ rs) number item (inr g) = rw (held (r .kept) (g .0), judged) (
 
 -- a line that names nothing names nothing
 unnamed-sound : (number : ℕ) (kept : Formula) → Named (unnamed number kept) (names (unnamed number kept))
-unnamed-sound number kept = inl (refl, omega (arith, lowest-le (λ k. not (holds kept)) 0))
+unnamed-sound number kept = inl (refl, sym (none-named number kept))
 
 module _ (s : Sheet) where
   -- refusal 13 names the lowest zone with a circle at it or below it
@@ -75,7 +75,7 @@ module _ (s : Sheet) where
           omega (arith, circle-named s named, lowest-le (λ z. not (holds (isIn z (zoneLine s)))) (zoneCount s), full)
         where
           full : left ≡ zoneCount s → ⊥
-          full e = stuck (line-full s named .1 e)
+          full e = stuck (line-full s .1 e)
 
   rules-sound : Sound (ruleRefusals s)
   rules-sound =

@@ -1,5 +1,5 @@
 -- The judgement of the tables against the written refusals: when it passes a sheet, and which refusal it gives.
-use mathlib.Core.Path.{_≡_, refl, ap}
+use mathlib.Core.Path.{_≡_, refl, ap, _∙_}
 use mathlib.Core.Bool.{Bool, true, false, not}
 use mathlib.Core.List.{List, [], _∷_, _++_}
 use mathlib.Core.Logic.{_↔_}
@@ -11,11 +11,11 @@ use Rattle.subdivision.specs.declared.Verdict.the-variants.{Passed, Refused}
 use Rattle.subdivision.specs.Formula.{Formula, everyBelow, holds, Means}
 use Rattle.subdivision.specs.Lowest.{lowest}
 use Rattle.subdivision.specs.Sheet.{Sheet}
-use Rattle.subdivision.specs.Refusals.{Refusal, names, forEach, judged, limitRefusals, ruleRefusals}
+use Rattle.subdivision.specs.Refusals.{Refusal, names, unnamed, forEach, judged, limitRefusals, ruleRefusals}
 use Rattle.subdivision.specs.Accepted.{Accepted}
 use Rattle.subdivision.specs.Faults.{LowestFault}
 use Rattle.theory.proofs.Decide.{means, held, denies, fails, broken-item}
-use Rattle.theory.proofs.Lowest.{lowest-before, lowest-passes, lowest-at-most}
+use Rattle.theory.proofs.Lowest.{lowest-before, lowest-passes, lowest-at-most, lowest-le}
 use Rattle.theory.proofs.ZoneLine.{line-decides}
 
 -- no refusal's fault is there
@@ -108,6 +108,19 @@ judged-append (r ∷ rs) qs = go (holds (r .kept)) (judged-append rs qs)
         (andThen (elim b [ true ↦ judged rs | false ↦ Verdict.Refused (r .number) (names r) ]))
     go true rest = rest
     go false rest = refl
+
+-- a refusal among the first lines is given
+pub refused-first : (rs qs : List Refusal) (number item : ℕ) → judged rs ≡ Verdict.Refused number item → judged (rs ++ qs) ≡ Verdict.Refused number item
+refused-first rs qs number item e =
+    judged-append rs qs ∙ (λ i. elim (e i) [ Passed ↦ judged qs | Refused n k ↦ Verdict.Refused n k ])
+
+-- past the first lines the others decide
+pub passed-first : (rs qs : List Refusal) → judged rs ≡ Verdict.Passed → judged (rs ++ qs) ≡ judged qs
+passed-first rs qs e = judged-append rs qs ∙ (λ i. elim (e i) [ Passed ↦ judged qs | Refused n k ↦ Verdict.Refused n k ])
+
+-- a refusal that names nothing names 0
+pub none-named : (number : ℕ) (kept : Formula) → 0 ≡ names (unnamed number kept)
+none-named number kept = omega (arith, lowest-le (λ k. not (holds kept)) 0)
 
 -- where no item breaks the clause, every item keeps it
 pub lowest-all-means : (items : ℕ) (clause : ℕ → Formula) → lowest (λ k. not (holds (clause k))) items ≡ items

@@ -11,35 +11,47 @@ use Rattle.fans.proofs.FanTables.{FanPart, fan-part}
 use Rattle.fans.proofs.tied_over.Statement.{statement}
 use Rattle.fans.proofs.tied_over.Tie as tie
 
-under-part : (c : tie.After-place4) → FanPart (c .before .before .before .before .before .before .before .args .edges .now) true (c .before .before .before .before .before .before .before .args .eastern .now) (c .before .before .before .before .before .before .before .args .under) (c .before .before .before .place .result) (c .before .before .place2 .result)
+under-part : (c : tie.After-word4) → FanPart (c .before .before .before .before .before .before .before .args .edges .now) true (c .before .before .before .before .before .before .before .args .eastern .now) (c .before .before .before .before .before .before .before .args .under) (c .before .before .before .word .result) (c .before .before .word2 .result)
 under-part c =
     let s = c .before .before .before .before .before .before .before in
     let a = s .args in
-    fan-part (a .edges .now) true (a .eastern .now) (a .starts .now) (s .pre .1) (a .under) (s .pre .0 .0) (c .before .before .before .place .ensures) (c .before .before .place2 .ensures)
+    fan-part (a .edges .now) true (a .eastern .now) (a .starts .now) (s .pre .1) (a .under) (s .pre .0 .0) (c .before .before .before .word .ensures) (c .before .before .word2 .ensures)
 
-over-part : (c : tie.After-place4) → FanPart (c .before .before .before .before .before .before .before .args .edges .now) true (c .before .before .before .before .before .before .before .args .eastern .now) (c .before .before .before .before .before .before .before .args .over) (c .before .place3 .result) (c .place4 .result)
+over-part : (c : tie.After-word4) → FanPart (c .before .before .before .before .before .before .before .args .edges .now) true (c .before .before .before .before .before .before .before .args .eastern .now) (c .before .before .before .before .before .before .before .args .over) (c .before .word3 .result) (c .word4 .result)
 over-part c =
     let s = c .before .before .before .before .before .before .before in
     let a = s .args in
-    fan-part (a .edges .now) true (a .eastern .now) (a .starts .now) (s .pre .1) (a .over) (s .pre .0 .1) (c .before .place3 .ensures) (c .place4 .ensures)
+    fan-part (a .edges .now) true (a .eastern .now) (a .starts .now) (s .pre .1) (a .over) (s .pre .0 .1) (c .before .word3 .ensures) (c .word4 .ensures)
 
-place-requires : tie.Need-place-requires
-place-requires c κs = search needs
+word-requires : tie.Need-word-requires
+word-requires c κs = search needs
 
-add-place : tie.Need-add-place
-add-place c = search needs
+cast-a : tie.Need-cast-a
+cast-a c = search needs
 
-place-requires-2 : tie.Need-place-requires-2
-place-requires-2 c κs = search needs
+add-word : tie.Need-add-word
+add-word c = search needs
 
-place-requires-3 : tie.Need-place-requires-3
-place-requires-3 c κs = search needs
+word-requires-2 : tie.Need-word-requires-2
+word-requires-2 c κs = search needs
 
-add-place-2 : tie.Need-add-place-2
-add-place-2 c = search needs
+cast-b : tie.Need-cast-b
+cast-b c = search needs
 
-place-requires-4 : tie.Need-place-requires-4
-place-requires-4 c κs = search needs
+word-requires-3 : tie.Need-word-requires-3
+word-requires-3 c κs = search needs
+
+cast-c : tie.Need-cast-c
+cast-c c = search needs
+
+add-word-2 : tie.Need-add-word-2
+add-word-2 c = search needs
+
+word-requires-4 : tie.Need-word-requires-4
+word-requires-4 c κs = search needs
+
+cast-d : tie.Need-cast-d
+cast-d c = search needs
 
 mul-margin-tied : tie.Need-mul-margin-tied
 mul-margin-tied c = omega (arith, under-part c .rises, under-part c .within)
@@ -78,12 +90,16 @@ pub tied-over-spec : {M : Type 1} → statement M
 tied-over-spec =
     tie.close
     (tie.spec
-    place-requires
-    add-place
-    place-requires-2
-    place-requires-3
-    add-place-2
-    place-requires-4
+    word-requires
+    cast-a
+    add-word
+    word-requires-2
+    cast-b
+    word-requires-3
+    cast-c
+    add-word-2
+    word-requires-4
+    cast-d
     mul-margin-tied
     sub-margin-tied
     part-margin-tied-start

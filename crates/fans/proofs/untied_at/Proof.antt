@@ -11,35 +11,47 @@ use Rattle.fans.proofs.FanTables.{FanPart, fan-part}
 use Rattle.fans.proofs.untied_at.Statement.{statement}
 use Rattle.fans.proofs.untied_at.Tie as tie
 
-western-part : (c : tie.After-place4) → FanPart (c .before .before .before .before .before .before .before .before .before .args .edges .now) false (c .before .before .before .before .before .before .before .before .before .args .western .now) (c .before .before .before .before .before .before .before .before .before .args .v) (c .before .before .before .place .result) (c .before .before .place2 .result)
+western-part : (c : tie.After-word4) → FanPart (c .before .before .before .before .before .before .before .before .before .args .edges .now) false (c .before .before .before .before .before .before .before .before .before .args .western .now) (c .before .before .before .before .before .before .before .before .before .args .v) (c .before .before .before .word .result) (c .before .before .word2 .result)
 western-part c =
     let s = c .before .before .before .before .before .before .before .before .before in
     let a = s .args in
-    fan-part (a .edges .now) false (a .western .now) (a .wstarts .now) (s .pre .1 .0) (a .v) (s .pre .0 .0) (c .before .before .before .place .ensures) (c .before .before .place2 .ensures)
+    fan-part (a .edges .now) false (a .western .now) (a .wstarts .now) (s .pre .1 .0) (a .v) (s .pre .0 .0) (c .before .before .before .word .ensures) (c .before .before .word2 .ensures)
 
-eastern-part : (c : tie.After-place4) → FanPart (c .before .before .before .before .before .before .before .before .before .args .edges .now) true (c .before .before .before .before .before .before .before .before .before .args .eastern .now) (c .before .before .before .before .before .before .before .before .before .args .v) (c .before .place3 .result) (c .place4 .result)
+eastern-part : (c : tie.After-word4) → FanPart (c .before .before .before .before .before .before .before .before .before .args .edges .now) true (c .before .before .before .before .before .before .before .before .before .args .eastern .now) (c .before .before .before .before .before .before .before .before .before .args .v) (c .before .word3 .result) (c .word4 .result)
 eastern-part c =
     let s = c .before .before .before .before .before .before .before .before .before in
     let a = s .args in
-    fan-part (a .edges .now) true (a .eastern .now) (a .estarts .now) (s .pre .1 .1) (a .v) (s .pre .0 .1) (c .before .place3 .ensures) (c .place4 .ensures)
+    fan-part (a .edges .now) true (a .eastern .now) (a .estarts .now) (s .pre .1 .1) (a .v) (s .pre .0 .1) (c .before .word3 .ensures) (c .word4 .ensures)
 
-place-requires : tie.Need-place-requires
-place-requires c κs = search needs
+word-requires : tie.Need-word-requires
+word-requires c κs = search needs
 
-add-place : tie.Need-add-place
-add-place c = search needs
+cast-a : tie.Need-cast-a
+cast-a c = search needs
 
-place-requires-2 : tie.Need-place-requires-2
-place-requires-2 c κs = search needs
+add-word : tie.Need-add-word
+add-word c = search needs
 
-place-requires-3 : tie.Need-place-requires-3
-place-requires-3 c κs = search needs
+word-requires-2 : tie.Need-word-requires-2
+word-requires-2 c κs = search needs
 
-add-place-2 : tie.Need-add-place-2
-add-place-2 c = search needs
+cast-b : tie.Need-cast-b
+cast-b c = search needs
 
-place-requires-4 : tie.Need-place-requires-4
-place-requires-4 c κs = search needs
+word-requires-3 : tie.Need-word-requires-3
+word-requires-3 c κs = search needs
+
+cast-c : tie.Need-cast-c
+cast-c c = search needs
+
+add-word-2 : tie.Need-add-word-2
+add-word-2 c = search needs
+
+word-requires-4 : tie.Need-word-requires-4
+word-requires-4 c κs = search needs
+
+cast-d : tie.Need-cast-d
+cast-d c = search needs
 
 mul-vertex-tied : tie.Need-mul-vertex-tied
 mul-vertex-tied c = omega (arith, western-part c .rises, western-part c .within)
@@ -78,12 +90,16 @@ pub untied-at-spec : {M : Type 1} → statement M
 untied-at-spec =
     tie.close
     (tie.spec
-    place-requires
-    add-place
-    place-requires-2
-    place-requires-3
-    add-place-2
-    place-requires-4
+    word-requires
+    cast-a
+    add-word
+    word-requires-2
+    cast-b
+    word-requires-3
+    cast-c
+    add-word-2
+    word-requires-4
+    cast-d
     mul-vertex-tied
     sub-vertex-tied
     part-vertex-tied-start

@@ -19,30 +19,30 @@ returns-2 c =
     let a = c .before .before .before .before .before .args in
     sym (held (fansTied (a .vertices .now) (a .edges .now) (a .western .now) (a .eastern .now)) (λ d. absurd (lt-irrefl 0 (omega (arith, c .if2 .taken, d .1)))))
 
-zone-over-requires : tie.Need-zone-over-requires
-zone-over-requires c κs = search needs
+outer-zone-requires : tie.Need-outer-zone-requires
+outer-zone-requires c κs = search needs
 
-zone-over-requires-2 : tie.Need-zone-over-requires-2
-zone-over-requires-2 c κs = search needs
+outer-zone-requires-2 : tie.Need-outer-zone-requires-2
+outer-zone-requires-2 c κs = search needs
 
-zone-under-requires : tie.Need-zone-under-requires
-zone-under-requires c κs = search needs
+outer-zone-requires-3 : tie.Need-outer-zone-requires-3
+outer-zone-requires-3 c κs = search needs
 
-zone-under-requires-2 : tie.Need-zone-under-requires-2
-zone-under-requires-2 c κs = search needs
+outer-zone-requires-4 : tie.Need-outer-zone-requires-4
+outer-zone-requires-4 c κs = search needs
 
 returns-3 : tie.Need-returns-3
 returns-3 c =
     let t = c .before .before .before .before .before in
     let a = t .before .before .before .before .before .args in
-    let same = sym (c .before .before .before .before .zone-over .ensures) ∙ c .before .before .if3 .taken ∙ c .before .before .before .zone-over2 .ensures in
-    rw (c .before .zone-under .ensures, c .zone-under2 .ensures) (fans-below (a .vertices .now) (a .edges .now) (a .western .now) (a .eastern .now) (t .before .if1 .left) (t .if2 .left) same)
+    let same = sym (c .before .before .before .before .outer-zone .ensures) ∙ c .before .before .if3 .taken ∙ c .before .before .before .outer-zone2 .ensures in
+    rw (c .before .outer-zone3 .ensures, c .outer-zone4 .ensures) (fans-below (a .vertices .now) (a .edges .now) (a .western .now) (a .eastern .now) (t .before .if1 .left) (t .if2 .left) same)
 
 returns-4 : tie.Need-returns-4
 returns-4 c =
     let t = c .before .before .before in
     let a = t .before .before .before .before .before .args in
-    sym (fails (fansTied (a .vertices .now) (a .edges .now) (a .western .now) (a .eastern .now)) (λ m. c .if3 .left (c .before .before .zone-over .ensures ∙ m (omega arith, omega arith) .0 ∙ sym (c .before .zone-over2 .ensures))))
+    sym (fails (fansTied (a .vertices .now) (a .edges .now) (a .western .now) (a .eastern .now)) (λ m. c .if3 .left (c .before .before .outer-zone .ensures ∙ m (omega arith, omega arith) .0 ∙ sym (c .before .outer-zone2 .ensures))))
 
 pub fans-tied-spec : {M : Type 1} → statement M
 fans-tied-spec =
@@ -50,9 +50,9 @@ fans-tied-spec =
     (tie.spec
     returns
     returns-2
-    zone-over-requires
-    zone-over-requires-2
-    zone-under-requires
-    zone-under-requires-2
+    outer-zone-requires
+    outer-zone-requires-2
+    outer-zone-requires-3
+    outer-zone-requires-4
     returns-3
     returns-4)

@@ -19,17 +19,17 @@ returns-2 c =
     let a = c .before .before .before .before .before .args in
     sym (held (marginTied (a .vertices .now) (a .edges .now) (a .under .now) (a .over .now)) (λ d. absurd (lt-irrefl 0 (omega (arith, c .if2 .taken, d .1)))))
 
-zone-over-requires : tie.Need-zone-over-requires
-zone-over-requires c κs = search needs
+outer-zone-requires : tie.Need-outer-zone-requires
+outer-zone-requires c κs = search needs
 
-zone-under-requires : tie.Need-zone-under-requires
-zone-under-requires c κs = search needs
+outer-zone-requires-2 : tie.Need-outer-zone-requires-2
+outer-zone-requires-2 c κs = search needs
 
 returns-3 : tie.Need-returns-3
 returns-3 c =
     let a = c .before .before .before .before .before .before .before .args in
-    rw (c .before .zone-over .ensures, c .zone-under .ensures) (margin-meets (a .vertices .now) (a .edges .now) (a .under .now) (a .over .now) (c .before .before .before .if1 .left) (c .before .before .if2 .left))
+    rw (c .before .outer-zone .ensures, c .outer-zone2 .ensures) (margin-meets (a .vertices .now) (a .edges .now) (a .under .now) (a .over .now) (c .before .before .before .if1 .left) (c .before .before .if2 .left))
 
 pub margin-tied-spec : {M : Type 1} → statement M
 margin-tied-spec =
-    tie.close (tie.spec returns returns-2 zone-over-requires zone-under-requires returns-3)
+    tie.close (tie.spec returns returns-2 outer-zone-requires outer-zone-requires-2 returns-3)

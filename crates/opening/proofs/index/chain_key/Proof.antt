@@ -7,14 +7,20 @@ use Rattle.opening.proofs.index.chain_key.Tie as tie
 edge-below-requires : tie.Need-edge-below-requires
 edge-below-requires c κs = search needs
 
-place-at-requires : tie.Need-place-at-requires
-place-at-requires c κs = search needs
+cast-word : tie.Need-cast-word
+cast-word c = search needs
+
+word-requires : tie.Need-word-requires
+word-requires c κs = search needs
 
 edge-above-requires : tie.Need-edge-above-requires
 edge-above-requires c κs = search needs
 
-place-at-requires-2 : tie.Need-place-at-requires-2
-place-at-requires-2 c κs = search needs
+cast-word-2 : tie.Need-cast-word-2
+cast-word-2 c = search needs
+
+word-requires-2 : tie.Need-word-requires-2
+word-requires-2 c κs = search needs
 
 edge-west-requires : tie.Need-edge-west-requires
 edge-west-requires c κs = search needs
@@ -43,16 +49,18 @@ returns c =
     let west = c .before .before in
     let above = west .before .before in
     let below = above .before .before in
-    rw (c .lca .ensures, c .before .vertex-x .ensures, west .edge-west .ensures, west .before .place-at2 .ensures, above .edge-above .ensures, above .before .place-at .ensures, below .edge-below .ensures)
+    rw (c .lca .ensures, c .before .vertex-x .ensures, west .edge-west .ensures, west .before .word2 .ensures, above .edge-above .ensures, above .before .word .ensures, below .edge-below .ensures)
 
 pub chain-key-spec : {M : Type 1} → statement M
 chain-key-spec =
     tie.close
     (tie.spec
     edge-below-requires
-    place-at-requires
+    cast-word
+    word-requires
     edge-above-requires
-    place-at-requires-2
+    cast-word-2
+    word-requires-2
     edge-west-requires
     vertex-x-requires
     lca-requires

@@ -1,0 +1,84 @@
+-- What opening promises, from the judgement of its refusals and the words it leaves.
+use mathlib.Core.Path.{_≡_, refl, sym, ap, _∙_, subst}
+use mathlib.Core.Bool.{true, false}
+use mathlib.Core.List.{List, [], _∷_, _++_}
+use mathlib.Core.Logic.{_↔_}
+use Prim.Native.Nat.{ℕ, _<_, _≤_}
+use native.Mathlib.Omega.{arith}
+use lib.ListN.{length}
+use Rattle.subdivision.specs.declared.Verdict.{Verdict}
+use Rattle.subdivision.specs.Formula.{Formula, holds}
+use Rattle.subdivision.specs.Lists.{put}
+use Rattle.subdivision.specs.Layout.{indexNeed}
+use Rattle.subdivision.specs.Sheet.{Sheet, edgeCount, zoneCount}
+use Rattle.subdivision.specs.Refusals.{judged, limitRefusals, roomRefusal, ruleRefusals}
+use Rattle.subdivision.specs.Faults.{GivenBy, openingRefusals, tableRefusals}
+use Rattle.subdivision.specs.Accepted.{Accepted}
+use Rattle.subdivision.specs.Index.{indexWords}
+use Rattle.subdivision.specs.Calls.{opening}
+use Rattle.theory.proofs.Decide.{held, fails}
+use Rattle.theory.proofs.Judgement.{refused-first, passed-first, none-named}
+use Rattle.theory.proofs.Faults.{opened-exactly, refused-exactly}
+use Rattle.theory.proofs.Chains.{index-length, accepted-line, accepted-above, accepted-west}
+
+module _ (s : Sheet) (index : List ℕ) where
+  -- the promises of a verdict and the words left, in the order of the contract
+  abbrev pub Promised : Verdict → List ℕ → Type 0
+  Promised v left =
+      (v ≡ opening s index .verdict)
+      × ((left ≡ opening s index .index)
+      × (((v ≡ Verdict.Passed) ↔ (Accepted s × (indexNeed (zoneCount s) (edgeCount s) ≤ length index)))
+      × (((number item : ℕ) → (v ≡ Verdict.Refused number item) ↔ GivenBy (openingRefusals s (length index)) number item)
+      × ((v ≡ Verdict.Passed → (left ≡ put (indexWords s) index) × (length (indexWords s) ≡ indexNeed (zoneCount s) (edgeCount s)))
+      × ((number item : ℕ) → v ≡ Verdict.Refused number item → left ≡ index)))))
+
+  -- a verdict, as the rules' statements
+  says : (v : Verdict) → judged (openingRefusals s (length index)) ≡ v
+      → ((v ≡ Verdict.Passed) ↔ (Accepted s × (indexNeed (zoneCount s) (edgeCount s) ≤ length index)))
+      × ((number item : ℕ) → (v ≡ Verdict.Refused number item) ↔ GivenBy (openingRefusals s (length index)) number item)
+  says v e =
+      subst (λ (w : Verdict). ((w ≡ Verdict.Passed) ↔ (Accepted s × (indexNeed (zoneCount s) (edgeCount s) ≤ length index))) × ((number item : ℕ) → (w ≡ Verdict.Refused number item) ↔ GivenBy (openingRefusals s (length index)) number item)) e
+      (opened-exactly s (length index), refused-exactly s (length index))
+
+  -- a refusal leaves the words as they were
+  pub refusal-promised : (number item : ℕ) → judged (openingRefusals s (length index)) ≡ Verdict.Refused number item → Promised (Verdict.Refused number item) index
+  unfolding opening
+  refusal-promised number item e =
+      (rw (e, opening), (rw (e, opening), (told .0, (told .1, (λ p. let never : _≡_ {A = ℕ} 0 1 = cc in absurd (omega arith), λ n i p. refl)))))
+    where
+      told : ((Verdict.Refused number item ≡ Verdict.Passed) ↔ (Accepted s × (indexNeed (zoneCount s) (edgeCount s) ≤ length index)))
+          × ((n i : ℕ) → (Verdict.Refused number item ≡ Verdict.Refused n i) ↔ GivenBy (openingRefusals s (length index)) n i)
+      told = says (Verdict.Refused number item) e
+
+  -- an opened sheet has its index written over the front
+  pub opened-promised : (left : List ℕ) → judged (openingRefusals s (length index)) ≡ Verdict.Passed → left ≡ put (indexWords s) index → Promised Verdict.Passed left
+  unfolding opening
+  opened-promised left e w =
+      (rw (e, opening), (w ∙ rw (e, opening), (told .0, (told .1, (λ p. (w, long), λ n i p. let never : _≡_ {A = ℕ} 0 1 = cc in absurd (omega arith))))))
+    where
+      told : ((Verdict.Passed ≡ Verdict.Passed) ↔ (Accepted s × (indexNeed (zoneCount s) (edgeCount s) ≤ length index)))
+          × ((n i : ℕ) → (Verdict.Passed ≡ Verdict.Refused n i) ↔ GivenBy (openingRefusals s (length index)) n i)
+      told = says Verdict.Passed e
+
+      a : Accepted s
+      a = told .0 .0 refl .0
+
+      long : length (indexWords s) ≡ indexNeed (zoneCount s) (edgeCount s)
+      long = index-length s (accepted-west s a) (accepted-line s a) (accepted-above s a)
+
+  -- a refusal by the limits is given
+  pub refused-by-limits : (number item : ℕ) → judged (limitRefusals s) ≡ Verdict.Refused number item → judged (openingRefusals s (length index)) ≡ Verdict.Refused number item
+  refused-by-limits = refused-first (limitRefusals s) (roomRefusal s (length index) ∷ ruleRefusals s)
+
+  module _ (limits : judged (limitRefusals s) ≡ Verdict.Passed) where
+    -- an index without room is refused 3
+    pub no-room : length index < indexNeed (zoneCount s) (edgeCount s) → judged (openingRefusals s (length index)) ≡ Verdict.Refused 3 0
+    no-room h =
+        passed-first (limitRefusals s) (roomRefusal s (length index) ∷ ruleRefusals s) limits
+        ∙ rw (fails (roomRefusal s (length index) .kept) (λ k. omega arith), judged) (ap (Verdict.Refused 3) (sym (none-named 3 (roomRefusal s (length index) .kept))))
+
+    -- with room the rules decide
+    pub with-room : indexNeed (zoneCount s) (edgeCount s) ≤ length index → judged (openingRefusals s (length index)) ≡ judged (tableRefusals s)
+    with-room h =
+        passed-first (limitRefusals s) (roomRefusal s (length index) ∷ ruleRefusals s) limits
+        ∙ rw (held (roomRefusal s (length index) .kept) h, judged) (sym (passed-first (limitRefusals s) (ruleRefusals s) limits))

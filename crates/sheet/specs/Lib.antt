@@ -1,0 +1,2 @@
+-- What the judgement leaves.
+pub mod Judgement
