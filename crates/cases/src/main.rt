@@ -1,20 +1,24 @@
-// The worked cases of document 01 that the leaves answer, a line each: lca, top bits, and on the lens
-// sheet the order from west to east, the side of each covering edge at the seven points, and rule 4; then rule 4 broken.
+// The worked cases of document 01 that the parts built so far answer, a line each: the worked sheets
+// opened; lca, top bits, and on the lens sheet the order from west to east, the side of each covering
+// edge at the seven points, and rule 4; then rule 4 broken.
+mod openings;
+
+use crate::openings::openings;
 use libc::STDOUT_FILENO;
 use subdivision::Segment;
 use subdivision::Side;
 
 // The lens sheet's vertices.
-const VERTICES: [i32; 8] = [0, 0, 2, 2, 2, -2, 4, 0];
+pub const VERTICES: [i32; 8] = [0, 0, 2, 2, 2, -2, 4, 0];
 
 // The lens sheet's edges.
-const EDGES: [u32; 16] = [0, 1, 2, 1, 1, 3, 2, 1, 0, 2, 1, 0, 2, 3, 1, 0];
+pub const EDGES: [u32; 16] = [0, 1, 2, 1, 1, 3, 2, 1, 0, 2, 1, 0, 2, 3, 1, 0];
 
-fn text(s: &[u8]) {
+pub fn text(s: &[u8]) {
     io::write_all(STDOUT_FILENO, s);
 }
 
-fn number(n: u32) {
+pub fn number(n: u32) {
     text(b" ");
     io::print_decimal(STDOUT_FILENO, n as u64);
 }
@@ -156,6 +160,7 @@ fn points() {
 }
 
 fn main() {
+    openings();
     lca(0, 11);
     lca(7, 9);
     lca(9, 10);

@@ -1,13 +1,15 @@
 // The C ABI: proved functions for tests and for programs in other languages. A `&[T]` is a pointer
 // and then a length. What a caller owes (valid pointers, no overlap) no proof covers.
 use subdivision::Side;
+use subdivision::Verdict;
 ghost use mathlib.Core.Path.{_≡_};
 ghost use lib.ListN.{length, drop};
 ghost use Rattle.subdivision.specs.Formula.{holds};
 ghost use Rattle.subdivision.specs.Dyadic.{bits, topBit, lca};
-ghost use Rattle.subdivision.specs.Sheet.{shifted, segmentOf};
+ghost use Rattle.subdivision.specs.Sheet.{shifted, sheetOf, segmentOf};
 ghost use Rattle.subdivision.specs.Lines.{covers, sideAt, conflict};
-ghost use Rattle.subdivision.specs.Answers.{sideValue};
+ghost use Rattle.subdivision.specs.Answers.{verdictValues, sideValue};
+ghost use Rattle.subdivision.specs.Calls.{opening};
 ghost use Rattle.exports.specs.Flags.{flag, sortFits, sortLeaves};
 
 // The bit length of k.
@@ -94,4 +96,25 @@ pub extern "C" fn tw_conflict(vertices: &[i32], edges: &[u32], e: u32, f: u32) -
     let g = geometry::tables::segment(vertices, edges, e);
     let h = geometry::tables::segment(vertices, edges, f);
     flag(geometry::lines::conflict(g, h))
+}
+
+// Opens a sheet: `out` is the refusal's number and the item that it names, 0 0 where the sheet is
+// opened; then the first 3n + m + 1 words of `index` are its index.
+#[no_mangle]
+pub extern "C" fn tw_open(
+    west: i32,
+    east: i32,
+    vertices: &[i32],
+    edges: &[u32],
+    zones: u32,
+    index: &mut [u32],
+    out: &mut [u32; 2],
+)
+    ensures verdict { λ _. ⌜ now (out .exit) ≡ verdictValues (opening (sheetOf west east (now (vertices .entry)) (now (edges .entry)) zones) (now (index .entry)) .verdict) ⌝ }
+    ensures words { λ _. ⌜ now (index .exit) ≡ opening (sheetOf west east (now (vertices .entry)) (now (edges .entry)) zones) (now (index .entry)) .index ⌝ }
+{
+    match opening::open_sheet(west, east, vertices, edges, zones, index) {
+        Verdict::Passed => *out = [0, 0],
+        Verdict::Refused(number, item) => *out = [number, item],
+    }
 }

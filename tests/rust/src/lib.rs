@@ -1,5 +1,9 @@
 //! The proved functions as safe Rust, and a generator of numbers with a printed seed.
 
+pub mod sheets;
+
+use sheets::Sheet;
+
 mod exported {
     #[link(name = "exports", kind = "static")]
     extern "C" {
@@ -10,6 +14,7 @@ mod exported {
         pub fn tw_covers(vertices: *const i32, vertices_len: usize, edges: *const u32, edges_len: usize, east: i32, e: u32, x: i32) -> u32;
         pub fn tw_side(vertices: *const i32, vertices_len: usize, edges: *const u32, edges_len: usize, e: u32, x: i32, y: i32) -> i32;
         pub fn tw_conflict(vertices: *const i32, vertices_len: usize, edges: *const u32, edges_len: usize, e: u32, f: u32) -> u32;
+        pub fn tw_open(west: i32, east: i32, vertices: *const i32, vertices_len: usize, edges: *const u32, edges_len: usize, zones: u32, index: *mut u32, index_len: usize, out: *mut u32);
     }
 }
 
@@ -39,6 +44,14 @@ pub fn side(vertices: &[i32], edges: &[u32], e: u32, x: i32, y: i32) -> i32 {
 
 pub fn conflict(vertices: &[i32], edges: &[u32], e: u32, f: u32) -> u32 {
     unsafe { exported::tw_conflict(vertices.as_ptr(), vertices.len(), edges.as_ptr(), edges.len(), e, f) }
+}
+
+/// Opens a sheet: the refusal's number and item, 0 0 where it is opened.
+pub fn open(s: &Sheet, index: &mut [u32]) -> [u32; 2] {
+    let mut out = [u32::MAX; 2];
+    let (v, e) = (&s.vertices, &s.edges);
+    unsafe { exported::tw_open(s.west, s.east, v.as_ptr(), v.len(), e.as_ptr(), e.len(), s.zones, index.as_mut_ptr(), index.len(), out.as_mut_ptr()) };
+    out
 }
 
 /// A small generator; the seed is `SEED` where that is set, and is printed.

@@ -1,0 +1,272 @@
+use crate::EDGES;
+use crate::VERTICES;
+use crate::number;
+use crate::text;
+use subdivision::MAX_EDGES;
+use subdivision::Verdict;
+
+// What every word holds before it is lent.
+const LENT: u32 = 99;
+
+// The lens sheet with the x of vertex 3 at 1,000,000.
+const FAR: [i32; 8] = [0, 0, 2, 2, 2, -2, 1000000, 0];
+
+// The lens sheet with the x of vertex 3 at 1,000,001.
+const TOO_FAR: [i32; 8] = [0, 0, 2, 2, 2, -2, 1000001, 0];
+
+// The vertices of two lenses side by side.
+const TWINS: [i32; 14] = [0, 0, 2, 0, 4, 0, 1, 1, 1, -1, 3, 1, 3, -1];
+
+// Two lenses, the left one with zone 2 over zone 1, the right one with zone 1 over zone 2.
+const CIRCLE: [u32; 40] = [
+    0,
+    3,
+    3,
+    2,
+    3,
+    1,
+    3,
+    2,
+    0,
+    4,
+    1,
+    0,
+    4,
+    1,
+    1,
+    0,
+    0,
+    1,
+    2,
+    1,
+    1,
+    5,
+    3,
+    1,
+    5,
+    2,
+    3,
+    1,
+    1,
+    6,
+    2,
+    0,
+    6,
+    2,
+    2,
+    0,
+    1,
+    2,
+    1,
+    2,
+];
+
+// The same with the right lens as the left.
+const ALIKE: [u32; 40] = [
+    0,
+    3,
+    3,
+    2,
+    3,
+    1,
+    3,
+    2,
+    0,
+    4,
+    1,
+    0,
+    4,
+    1,
+    1,
+    0,
+    0,
+    1,
+    2,
+    1,
+    1,
+    5,
+    3,
+    2,
+    5,
+    2,
+    3,
+    2,
+    1,
+    6,
+    1,
+    0,
+    6,
+    2,
+    1,
+    0,
+    1,
+    2,
+    2,
+    1,
+];
+
+// Two edges from W that meet at vertex 0 on E, with zone 3 above the lower one and zone 1 below the
+// upper one: by rule 5's western clause alone the lowest vertex at fault is 0.
+const WEDGE_VERTICES: [i32; 6] = [4, 0, 0, 1, 0, -1];
+
+// The edges of the wedge.
+const WEDGE: [u32; 8] = [1, 0, 2, 1, 2, 0, 3, 0];
+
+fn verdict(v: Verdict) {
+    match v {
+        Verdict::Passed => text(b" opened:"),
+        Verdict::Refused(refusal, item) => {
+            text(b" refused");
+            number(refusal);
+            number(item);
+            text(b":");
+        }
+    }
+}
+
+fn words(index: &[u32]) {
+    let mut i = 0;
+    while i < index.len() {
+        number(index[i]);
+        i += 1;
+    }
+    text(b"\n");
+}
+
+// Opens a sheet over lent words, and prints the verdict and every word afterwards.
+fn opened(
+    name: &[u8],
+    west: i32,
+    east: i32,
+    vertices: &[i32],
+    edges: &[u32],
+    zones: u32,
+    index: &mut [u32],
+) {
+    text(name);
+    verdict(opening::open_sheet(west, east, vertices, edges, zones, index));
+    words(index);
+}
+
+fn lenses() {
+    let vertices = VERTICES;
+    let edges = EDGES;
+    let mut enough = [LENT; 15];
+    opened(
+        b"the lens, 15 words:",
+        0,
+        4,
+        &vertices,
+        &edges,
+        3,
+        &mut enough,
+    );
+    let mut short = [LENT; 13];
+    opened(
+        b"the lens, 13 words:",
+        0,
+        4,
+        &vertices,
+        &edges,
+        3,
+        &mut short,
+    );
+    let far = FAR;
+    let mut room = [LENT; 14];
+    opened(b"x = 1,000,000:", 0, 1000000, &far, &edges, 3, &mut room);
+    let beyond = TOO_FAR;
+    let mut other = [LENT; 14];
+    opened(
+        b"x = 1,000,001:",
+        0,
+        1000000,
+        &beyond,
+        &edges,
+        3,
+        &mut other,
+    );
+    let mut less = [LENT; 13];
+    opened(
+        b"x = 1,000,001, 13 words:",
+        0,
+        1000000,
+        &beyond,
+        &edges,
+        3,
+        &mut less,
+    );
+}
+
+fn twins() {
+    let vertices = TWINS;
+    let circle = CIRCLE;
+    let mut first = [LENT; 23];
+    opened(b"the circle:", 0, 4, &vertices, &circle, 4, &mut first);
+    let alike = ALIKE;
+    let mut second = [LENT; 23];
+    opened(b"two like lenses:", 0, 4, &vertices, &alike, 4, &mut second);
+    let corners = WEDGE_VERTICES;
+    let wedge = WEDGE;
+    let mut third = [LENT; 15];
+    opened(b"the wedge:", 0, 4, &corners, &wedge, 4, &mut third);
+}
+
+fn blanks() {
+    let vertices = [0i32; 2];
+    let edges = [0u32; 4];
+    let mut first = [LENT; 8];
+    opened(
+        b"nothing drawn, n = 2:",
+        0,
+        4,
+        &vertices[..0],
+        &edges[..0],
+        2,
+        &mut first,
+    );
+    let mut second = [LENT; 5];
+    opened(
+        b"nothing drawn, n = 1:",
+        0,
+        4,
+        &vertices[..0],
+        &edges[..0],
+        1,
+        &mut second,
+    );
+    let mut third = [LENT; 5];
+    opened(
+        b"nothing drawn, n = 0:",
+        0,
+        4,
+        &vertices[..0],
+        &edges[..0],
+        0,
+        &mut third,
+    );
+}
+
+fn limits() {
+    let vertices = VERTICES;
+    let edges = [0u32; 4 * MAX_EDGES + 4];
+    let mut first = [LENT; 8];
+    opened(b"2,049 edges:", 0, 4, &vertices, &edges, 3, &mut first);
+    let mut second = [LENT; 8];
+    opened(
+        b"five words of edges:",
+        0,
+        4,
+        &vertices,
+        &edges[..5],
+        3,
+        &mut second,
+    );
+}
+
+// The worked sheets of document 01, and a wedge for rule 5's western clause.
+pub fn openings() {
+    lenses();
+    twins();
+    blanks();
+    limits();
+}

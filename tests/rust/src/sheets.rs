@@ -1,0 +1,160 @@
+//! Sheets as plain tables, and a generator of accepted ones.
+use crate::Random;
+
+#[derive(Clone, Debug, Default)]
+pub struct Sheet {
+    pub west: i32,
+    pub east: i32,
+    pub zones: u32,
+    pub vertices: Vec<i32>,
+    pub edges: Vec<u32>,
+}
+
+impl Sheet {
+    /// The words that an index needs: 3n + m + 1.
+    pub fn need(&self) -> usize {
+        3 * self.zones as usize + self.edges.len() / 4 + 1
+    }
+}
+
+/// Edges between numbered points, each with the face above it and the face below it; face 0 is under all, face 1 over all.
+struct Drawing {
+    points: Vec<(i64, i64)>,
+    edges: Vec<[usize; 4]>,
+    faces: usize,
+}
+
+/// Twice the area of a, b, c: above 0 where c is above the line from a to b, and a is west of b.
+fn area(a: (i64, i64), b: (i64, i64), c: (i64, i64)) -> i64 {
+    (b.0 - a.0) * (c.1 - a.1) - (b.1 - a.1) * (c.0 - a.0)
+}
+
+/// A triangulation of points with different abscissas, made from west to east, with as many more edges than points as asked for.
+fn triangulated(r: &mut Random, surplus: usize) -> Option<Drawing> {
+    let mut d = Drawing { points: vec![], edges: vec![], faces: 2 };
+    let step = 2 * r.between(1, (990_000 / (surplus as i64 + 8)).max(1));
+    let tall = [4, 1_000, 999_998][r.below(3) as usize];
+    let (mut over, mut under): (Vec<(usize, usize)>, Vec<(usize, usize)>) = (vec![], vec![]);
+    let mut x = -999_998;
+    while d.edges.len() < surplus + d.points.len() || d.points.len() < 2 {
+        let p = d.points.len();
+        x += 2 * r.between(1, step / 2);
+        if x > 999_998 {
+            return None;
+        }
+        d.points.push((x, 2 * r.between(-tall / 2, tall / 2)));
+        if p == 0 {
+            continue;
+        }
+        let first = d.edges.len();
+        d.edges.push([p - 1, p, 1, 0]);
+        let (mut last_over, mut last_under) = (first, first);
+        while let Some(&(u, e)) = over.last() {
+            if area(d.points[d.edges[e][0]], d.points[d.edges[e][1]], d.points[p]) <= 0 {
+                break;
+            }
+            let t = d.faces;
+            d.faces += 1;
+            (d.edges[e][2], d.edges[last_over][2]) = (t, t);
+            over.pop();
+            last_over = d.edges.len();
+            d.edges.push([u, p, 1, t]);
+        }
+        while let Some(&(u, e)) = under.last() {
+            if area(d.points[d.edges[e][0]], d.points[d.edges[e][1]], d.points[p]) >= 0 {
+                break;
+            }
+            let t = d.faces;
+            d.faces += 1;
+            (d.edges[e][3], d.edges[last_under][3]) = (t, t);
+            under.pop();
+            last_under = d.edges.len();
+            d.edges.push([u, p, t, 0]);
+        }
+        over.push((d.edges[last_over][0], last_over));
+        under.push((d.edges[last_under][0], last_under));
+    }
+    (d.edges.len() == surplus + d.points.len()).then_some(d)
+}
+
+/// Edges cut in two at their middle point, each at most once, until there are as many points as asked for.
+fn cut(r: &mut Random, d: &mut Drawing, points: usize) {
+    let mut whole: Vec<usize> = (0..d.edges.len()).collect();
+    while d.points.len() < points && !whole.is_empty() {
+        let e = whole.swap_remove(r.below(whole.len() as u64) as usize);
+        let [u, v, above, below] = d.edges[e];
+        let (a, b) = (d.points[u], d.points[v]);
+        let middle = d.points.len();
+        d.points.push(((a.0 + b.0) / 2, (a.1 + b.1) / 2));
+        d.edges[e] = [u, middle, above, below];
+        d.edges.push([middle, v, above, below]);
+    }
+}
+
+/// The length of the longest way up to each face from one that has nothing below it.
+fn levels(d: &Drawing) -> Vec<usize> {
+    let mut level = vec![0; d.faces];
+    let mut waits = vec![0; d.faces];
+    d.edges.iter().for_each(|e| waits[e[2]] += 1);
+    let mut ready: Vec<usize> = (0..d.faces).filter(|&f| waits[f] == 0).collect();
+    while let Some(f) = ready.pop() {
+        for e in d.edges.iter().filter(|e| e[3] == f) {
+            level[e[2]] = level[e[2]].max(level[f] + 1);
+            waits[e[2]] -= 1;
+            if waits[e[2]] == 0 {
+                ready.push(e[2]);
+            }
+        }
+    }
+    level
+}
+
+fn shuffled(r: &mut Random, n: usize) -> Vec<usize> {
+    let mut order: Vec<usize> = (0..n).collect();
+    (1..n).rev().for_each(|i| order.swap(i, r.below(i as u64 + 1) as usize));
+    order
+}
+
+/// An accepted sheet with so many vertices (from `surplus` + 3 to twice that), so many more edges than vertices, and at
+/// most so many zones: faces of one level share a zone where there are more faces, so that zones are in several pieces.
+/// All numbering is shuffled.
+pub fn accepted(r: &mut Random, vertices: usize, surplus: usize, zones: usize) -> Sheet {
+    let mut d = loop {
+        if let Some(mut d) = triangulated(r, surplus) {
+            if d.points.len() <= vertices {
+                cut(r, &mut d, vertices);
+                if d.points.len() == vertices {
+                    break d;
+                }
+            }
+        }
+    };
+    let level = levels(&d);
+    let mut by_level = shuffled(r, d.faces);
+    by_level.sort_by_key(|&f| level[f]);
+    let mut spare = d.faces.saturating_sub(zones);
+    let (mut name, mut names) = (vec![0; d.faces], 0);
+    for (i, &f) in by_level.iter().enumerate() {
+        let shares = i > 0 && spare > 0 && level[by_level[i - 1]] == level[f];
+        if shares {
+            spare -= 1;
+        } else {
+            names += 1;
+        }
+        name[f] = names - 1;
+    }
+    let (vertex, edge, zone) = (shuffled(r, d.points.len()), shuffled(r, d.edges.len()), shuffled(r, names));
+    let (first, last) = (d.points.iter().map(|p| p.0).min().unwrap(), d.points.iter().map(|p| p.0).max().unwrap());
+    let mut s = Sheet { west: first as i32, east: last as i32, zones: names as u32, vertices: vec![0; 2 * d.points.len()], edges: vec![0; 4 * d.edges.len()] };
+    d.points.drain(..).enumerate().for_each(|(v, p)| s.vertices[2 * vertex[v]..2 * vertex[v] + 2].copy_from_slice(&[p.0 as i32, p.1 as i32]));
+    for (e, &[u, v, above, below]) in d.edges.iter().enumerate() {
+        let words = [vertex[u] as u32, vertex[v] as u32, zone[name[above]] as u32, zone[name[below]] as u32];
+        s.edges[4 * edge[e]..4 * edge[e] + 4].copy_from_slice(&words);
+    }
+    s
+}
+
+/// A sheet at every limit: 1,024 vertices, 2,048 edges, 1,024 zones.
+pub fn largest(r: &mut Random) -> Sheet {
+    accepted(r, 1024, 1024, 1024)
+}
