@@ -1,7 +1,7 @@
 -- The edges of the rules in document 01's cases, and a sheet for rule 5's western clause, computed from the definitions.
 use mathlib.Core.Path.{_≡_, refl}
 use mathlib.Core.Bool.{true, false, not}
-use mathlib.Core.List.{List, [], _∷_}
+use mathlib.Core.List.{[], _∷_, _++_}
 use Prim.Native.Nat.{ℕ}
 use lib.IntN.{pos, negsuc}
 use Rattle.subdivision.specs.declared.Verdict.{Verdict}
@@ -13,9 +13,10 @@ use Rattle.subdivision.specs.Dyadic.{bits, topBit, lowBit, lca}
 use Rattle.subdivision.specs.Order.{inOrder}
 use Rattle.subdivision.specs.Sheet.{Sheet}
 use Rattle.subdivision.specs.Rules.{westernNames, easternNames, topsAndBottoms, marginNames}
-use Rattle.subdivision.specs.ZoneLine.{nextZone, zoneLine}
+use Rattle.subdivision.specs.ZoneLine.{nextZone, zoneLine, aboveCircle}
+use Rattle.subdivision.specs.Refusals.{judged, limitRefusals, roomRefusal, ruleRefusals}
 use Rattle.subdivision.specs.Index.{placeOf, zoneAt, chainOf, eastward, chain, startOf, indexWords}
-use Rattle.subdivision.specs.Calls.{Opened, opening}
+use Rattle.subdivision.specs.Calls.{opening}
 
 -- two lenses side by side, zone 3 above and zone 0 below: the left one has zone 2 over zone 1, the right one the two zones given, the upper first
 unfoldable pub twoLenses : ℕ → ℕ → Sheet
@@ -50,9 +51,13 @@ pub worked-refusals :
     -- the circle: refused 13, zone 1; with the right lens as the left it is accepted
     (opening (twoLenses 1 2) (tab w 23) ≡ record { verdict = Refused 13 1; index = tab w 23 })
     × (verdictOn (twoLenses 2 1) w 23 ≡ Passed)
+    -- of its zones all but 0 have a circle at them or below them: the highest stuck zone would be 3
+    × (tab (λ z. holds (aboveCircle (twoLenses 1 2) z)) 4 ≡ false ∷ true ∷ true ∷ true ∷ [])
     -- 13 index words give 3, also where a vertex is bad
     × (opening (wideLens 4 2 4) (tab w 13) ≡ record { verdict = Refused 3 0; index = tab w 13 })
     × (verdictOn (wideLens 4 2 1000001) w 13 ≡ Refused 3 0)
+    -- where 3 is judged after the rules it gives 4
+    × (judged (limitRefusals (wideLens 4 2 1000001) ++ (ruleRefusals (wideLens 4 2 1000001) ++ (roomRefusal (wideLens 4 2 1000001) 13 ∷ []))) ≡ Refused 4 3)
     -- x = 1,000,000 stands, 1,000,001 gives 4, and as a margin 2
     × (verdictOn (wideLens 1000000 2 1000000) w 14 ≡ Passed)
     × (verdictOn (wideLens 1000000 2 1000001) w 14 ≡ Refused 4 3)
@@ -66,4 +71,4 @@ pub worked-refusals :
     × (holds (westernNames wedge 0) ≡ false)
     × (lowest (λ v. not (holds (otherClauses v))) 3 ≡ 2)
 unfolding twoLenses wideLens blank wedge otherClauses verdictOn opening placeOf zoneAt chainOf eastward chain startOf indexWords nextZone zoneLine inOrder bits topBit lowBit lca lowest tab
-worked-refusals w = (refl, refl, refl, refl, refl, refl, refl, refl, refl, refl, refl, refl, refl)
+worked-refusals w = (refl, refl, refl, refl, refl, refl, refl, refl, refl, refl, refl, refl, refl, refl, refl)
