@@ -1,5 +1,5 @@
--- The order of the edges by their fans and the starts of the fans, from a table of keys.
-use mathlib.Core.Path.{_≡_, sym, ap, _∙_, subst}
+-- The fans as parts of the edges in order, from one start to the next.
+use mathlib.Core.Path.{_≡_, ap, _∙_}
 use mathlib.Core.Bool.{Bool}
 use mathlib.Core.List.{List}
 use Prim.Native.Nat.{ℕ, suc, _+_, _-_, _<_, _≤_, _/_}
@@ -10,40 +10,10 @@ use lib.ListN.{length, getD, take, drop}
 use Rattle.subdivision.specs.Lists.{tab}
 use Rattle.subdivision.specs.Order.{SortedBelow, inOrder}
 use Rattle.subdivision.specs.Sheet.{vertexX, vertexY}
-use Rattle.theory.proofs.Groups.{pairKey, groupStart, group-start-le, group-start-rises, group-start-same}
+use Rattle.theory.proofs.Groups.{pairKey, groupStart, group-start-le, group-start-rises}
 use Rattle.theory.proofs.Lists.{length-tab, getD-tab}
-use Rattle.theory.proofs.Order.{sorted-below, in-order-same}
+use Rattle.theory.proofs.Order.{sorted-below}
 use Rattle.fans.specs.Fans.{fanKey, fanOrder, fanOf, AreFans, pointOrder}
-
-module _ (edges : List ℕ) (eastern : Bool) {keys : List ℕ} {n w : ℕ} (filled : keys ≡ tab (fanKey edges eastern) w) (fits : n ≤ w) where
-  -- the key that the table has for an edge
-  abbrev entry : ℕ → ℕ
-  entry e = getD keys e 0
-
-  entry-key : (e : ℕ) → e < n → entry e ≡ fanKey edges eastern e
-  entry-key e h = ap (λ (l : List ℕ). getD l e 0) filled ∙ getD-tab (fanKey edges eastern) w e 0 (omega arith)
-
-  -- the edges in order of the table are in order of their fans
-  pub order-of-keys : {order : List ℕ} → order ≡ inOrder entry n → order ≡ inOrder (fanKey edges eastern) n
-  order-of-keys e = e ∙ in-order-same entry (fanKey edges eastern) n entry-key
-
-  pub sorted-of-keys : {order : List ℕ} → order ≡ inOrder entry n → SortedBelow (fanKey edges eastern) n order
-  sorted-of-keys e = subst (λ (l : List ℕ). SortedBelow (fanKey edges eastern) n l) (sym (order-of-keys e)) (sorted-below (fanKey edges eastern) n)
-
-  -- the starts by the table are the starts of the fans
-  pub starts-of-keys : {order starts : List ℕ} (m : ℕ) → order ≡ inOrder entry n → starts ≡ tab (groupStart entry order) m
-      → starts ≡ tab (groupStart (fanKey edges eastern) (inOrder (fanKey edges eastern) n)) m
-  starts-of-keys {order} m e f =
-      f ∙ (λ i. tab (λ v. same v i) m) ∙ ap (λ (l : List ℕ). tab (groupStart (fanKey edges eastern) l) m) (order-of-keys e)
-    where
-      s : SortedBelow (fanKey edges eastern) n order
-      s = sorted-of-keys e
-
-      known : (i : ℕ) → i < length order → entry (getD order i 0) ≡ fanKey edges eastern (getD order i 0)
-      known i h = entry-key (getD order i 0) (s .numbers i (omega (arith, s .long)))
-
-      same : (v : ℕ) → groupStart entry order v ≡ groupStart (fanKey edges eastern) order v
-      same v = group-start-same entry (fanKey edges eastern) order known v
 
 -- an order of all edges and its starts are the fans
 pub are-fans : (edges : List ℕ) (eastern : Bool) (n m : ℕ) {order starts : List ℕ} → order ≡ inOrder (fanKey edges eastern) n

@@ -1,5 +1,5 @@
 -- Rule 5 at a vertex, and between two vertices of the margin, is decided on lists of their fans.
-use mathlib.Core.Path.{_≡_, ap, subst, sym, _∙_}
+use mathlib.Core.Path.{_≡_, ap, subst, _∙_}
 use mathlib.Core.Bool.{Bool, true, false}
 use mathlib.Core.List.{List}
 use mathlib.Core.Logic.{inl, inr, ⊎-elim}
@@ -10,7 +10,7 @@ use Rattle.subdivision.specs.Sheet.{Sheet, edgeCount, xOf, aboveOf, belowOf}
 use Rattle.subdivision.specs.Neighbours.{isHighest, isLowest}
 use Rattle.subdivision.specs.Rules.{lineWestOf, lineEastOf, easternEdge, fanAgrees, westernNames, easternNames, topsAndBottoms}
 use Rattle.subdivision.specs.Accepted.{Highest, Lowest, Western, Eastern, Rule2, Rule4}
-use Rattle.theory.proofs.Decide.{means, held, fails, true-or-false, denies}
+use Rattle.theory.proofs.Decide.{means, denies, computes}
 use Rattle.theory.proofs.Beside.{lineBeside}
 use Rattle.theory.proofs.FanOrder.{endOf, OfFan, LowerBeside, fan-order}
 use Rattle.fans.specs.Fans.{furthest, nextIn, tied, fanTied, fansTied, vertexTied, marginTied}
@@ -22,8 +22,7 @@ use Rattle.fans.proofs.Ends.{furthest-is-end, ends-are-furthest}
 
 -- two formulas that follow from each other hold together
 same-holds : (p q : Formula) → (Means p → Means q) → (Means q → Means p) → holds p ≡ holds q
-same-holds p q f g =
-    ⊎-elim (λ e. e ∙ sym (held q (f (means p e)))) (λ e. e ∙ sym (fails q (λ m. denies p e (g m)))) (true-or-false (holds p))
+same-holds p q f g = computes q (holds p) (λ e. f (means p e)) (λ e m. denies p e (g m))
 
 module _ (s : Sheet) where
   -- rule 5 in the eastern or western fan of vertex v

@@ -18,12 +18,12 @@ use Rattle.subdivision.specs.ZoneLine.{isIn, isReady, nextZone, lineTo, zoneLin
 use Rattle.theory.proofs.Decide.{true-or-false, means}
 use Rattle.theory.proofs.Groups.{groupStart, group, group-start-le, group-start-rises}
 use Rattle.theory.proofs.Lists.{length-tab, getD-tab}
-use Rattle.theory.proofs.Lowest.{lowest-from, lowest-passes, lowest-before}
+use Rattle.theory.proofs.Lowest.{lowest-from, lowest-passes, lowest-before, lowest-same}
 use Rattle.theory.proofs.Order.{sorted-below}
 use Rattle.theory.proofs.Position.{length-snoc}
 use Rattle.line.specs.Waiting.{zonesOf, belowKey, waitOf, lowered}
 use Rattle.line.proofs.Stuck.{line-next, line-stuck, line-whole}
-use Rattle.line.proofs.Values.{lowest-same, put-next}
+use Rattle.line.proofs.Values.{put-next}
 use Rattle.line.proofs.Waiting.{ready-word, words-after}
 
 -- ---- the group of a zone, by the starts

@@ -18,11 +18,11 @@ use Rattle.subdivision.specs.Sheet.{edgeAbove, edgeBelow}
 use Rattle.subdivision.specs.ZoneLine.{isIn, isReady}
 use Rattle.theory.proofs.Decide.{true-or-false, means, held, denies, fails}
 use Rattle.theory.proofs.Groups.{groupStart, group, group-start-le, before-group, from-group, group-entry, group-split}
-use Rattle.theory.proofs.Lists.{length-tab, getD-tab}
+use Rattle.theory.proofs.Lists.{length-tab, getD-tab, tab-same}
+use Rattle.theory.proofs.Lowest.{lowest-same}
 use Rattle.theory.proofs.Position.{position-kept, position-last, absent, length-snoc, in-snoc}
 use Rattle.theory.proofs.Tally.{tally, tally-append, tally-same, tally-none, none-tally}
 use Rattle.line.specs.Waiting.{zonesOf, belowKey, isUnder, holdsBack, waitOf, counted, lowered}
-use Rattle.line.proofs.Values.{tab-same, lowest-same}
 
 -- ---- what stands in a longer list
 

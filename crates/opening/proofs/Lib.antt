@@ -1,5 +1,4 @@
 -- Laws of what `opening` writes, a file a subject.
-pub mod Keys
 pub mod Packed
 pub mod Parts
 pub mod Places

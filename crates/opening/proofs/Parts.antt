@@ -1,11 +1,11 @@
 -- Words written one after the other to the front of lent ones, and the four parts of an index.
-use mathlib.Core.Path.{_≡_, sym, _∙_}
+use mathlib.Core.Path.{_≡_, _∙_}
 use mathlib.Core.List.{List, _++_, append-assoc}
-use Prim.Native.Nat.{ℕ, suc, _+_, _≤_}
+use Prim.Native.Nat.{ℕ, suc, _+_}
 use native.Mathlib.Nat.{zero-add}
 use native.Mathlib.Omega.{arith}
-use lib.ListN.{length, take, drop, replicate, length-append, length-replicate}
-use lib.Seq.{length-take-le, take-append-seam, drop-append-add, drop-drop}
+use lib.ListN.{length, take, drop, length-append}
+use lib.Seq.{take-append-seam, drop-append-add, drop-drop}
 use Rattle.subdivision.specs.Lists.{put}
 use Rattle.subdivision.specs.Layout.{zoneWord, startWord, entryWord}
 
@@ -32,7 +32,3 @@ parts-put place line starts entries lent first second third fourth a b c long mo
     let four : fourth ≡ put (place ++ line ++ starts ++ entries) lent =
     h ∙ rw three (put-more (place ++ line ++ starts) entries lent c (omega (arith, length-append place line, length-append (place ++ line) starts))) in
     rw (append-assoc (place ++ line) starts entries, append-assoc place line (starts ++ entries)) at four
-
--- a part of a table of zeros is as long as asked
-pub zeros-part : (room n : ℕ) → n ≤ room → n ≡ length (take n (replicate {A = ℕ} room 0))
-zeros-part room n h = sym (length-take-le n (replicate {A = ℕ} room 0) (rw length-replicate h))

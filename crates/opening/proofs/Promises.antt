@@ -1,13 +1,11 @@
 -- What opening promises, from the judgement of its refusals and the words it leaves.
 use mathlib.Core.Path.{_≡_, refl, sym, ap, _∙_, subst}
-use mathlib.Core.Bool.{true, false}
-use mathlib.Core.List.{List, [], _∷_, _++_}
+use mathlib.Core.List.{List, _∷_}
 use mathlib.Core.Logic.{_↔_}
 use Prim.Native.Nat.{ℕ, _<_, _≤_}
 use native.Mathlib.Omega.{arith}
 use lib.ListN.{length}
 use Rattle.subdivision.specs.declared.Verdict.{Verdict}
-use Rattle.subdivision.specs.Formula.{Formula, holds}
 use Rattle.subdivision.specs.Lists.{put}
 use Rattle.subdivision.specs.Layout.{indexNeed}
 use Rattle.subdivision.specs.Sheet.{Sheet, edgeCount, zoneCount}

@@ -14,7 +14,7 @@ ghost use mathlib.Core.Bool.{true, false};
 ghost use mathlib.Core.List.{_++_};
 ghost use Prim.Native.Nat.{ℕ, suc, _+_, _<_, _≤_, _/_};
 ghost use lib.Dec.{ltb};
-ghost use lib.ListN.{length, getD, set, take, drop};
+ghost use lib.ListN.{length, getD, set};
 ghost use Rattle.subdivision.specs.Limits.{maxEdges, maxZones};
 ghost use Rattle.subdivision.specs.Layout.{indexNeed};
 ghost use Rattle.subdivision.specs.Lists.{tab, put};

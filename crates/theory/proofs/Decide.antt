@@ -17,14 +17,6 @@ pub true-or-false : (b : Bool) → (b ≡ true) ⊎ (b ≡ false)
 true-or-false true = inl refl
 true-or-false false = inr refl
 
-pub not-true : (b : Bool) → not b ≡ true → b ≡ false
-not-true true e = sym e
-not-true false e = refl
-
-pub not-false : (b : Bool) → not b ≡ false → b ≡ true
-not-false true e = refl
-not-false false e = sym e
-
 both-yes : (a b : Bool) → _≡_ {A = Bool} (elim a [ true ↦ b | false ↦ false ]) true → (a ≡ true) × (b ≡ true)
 both-yes true b e = (refl, e)
 both-yes false b e = absurd (false≢true e)
@@ -37,11 +29,11 @@ either-yes : (a b : Bool) → _≡_ {A = Bool} (elim a [ true ↦ true | false �
 either-yes true b e = inl refl
 either-yes false b e = inr e
 
-yes-left : (a b : Bool) → a ≡ true → _≡_ {A = Bool} (elim a [ true ↦ true | false ↦ b ]) true
+pub yes-left : (a b : Bool) → a ≡ true → _≡_ {A = Bool} (elim a [ true ↦ true | false ↦ b ]) true
 yes-left true b e = refl
 yes-left false b e = absurd (false≢true e)
 
-yes-right : (a b : Bool) → b ≡ true → _≡_ {A = Bool} (elim a [ true ↦ true | false ↦ b ]) true
+pub yes-right : (a b : Bool) → b ≡ true → _≡_ {A = Bool} (elim a [ true ↦ true | false ↦ b ]) true
 yes-right true b e = refl
 yes-right false b e = e
 

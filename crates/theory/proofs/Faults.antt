@@ -1,8 +1,8 @@
 -- The judgement gives a refusal exactly when its own line of the table says so, and passes exactly the sheets that keep every line.
-use mathlib.Core.Path.{_≡_, refl, sym, _∙_}
+use mathlib.Core.Path.{_≡_, refl, sym}
 use mathlib.Core.Bool.{Bool, true, false, not}
-use mathlib.Core.List.{List, [], _∷_, _++_}
-use mathlib.Core.Logic.{_⊎_, inl, inr, ⊎-elim, _↔_}
+use mathlib.Core.List.{List, [], _∷_}
+use mathlib.Core.Logic.{inl, inr, _↔_}
 use Prim.Native.Nat.{ℕ, _<_, _≤_}
 use native.Mathlib.Omega.{arith}
 use Rattle.subdivision.specs.declared.Verdict.{Verdict}
@@ -13,9 +13,9 @@ use Rattle.subdivision.specs.Rules.{vertexInside, vertexNew, edgeNames, edgeRun
 use Rattle.subdivision.specs.Layout.{indexNeed}
 use Rattle.subdivision.specs.ZoneLine.{isIn, zoneLine}
 use Rattle.subdivision.specs.Refusals.{Refusal, names, unnamed, forEach, judged, countsKept, marginsKept, roomRefusal, circleRefusal, ruleRefusals}
-use Rattle.subdivision.specs.Faults.{LowestFault, Named, FaultOf, GivenBy, openingRefusals, tableRefusals}
+use Rattle.subdivision.specs.Faults.{LowestFault, Named, GivenBy, openingRefusals, tableRefusals}
 use Rattle.subdivision.specs.Accepted.{Accepted}
-use Rattle.theory.proofs.Decide.{true-or-false, means, held, denies, fails}
+use Rattle.theory.proofs.Decide.{means, held, denies, fails}
 use Rattle.theory.proofs.Lowest.{is-lowest, lowest-le}
 use Rattle.theory.proofs.Judgement.{AllKept, passed-keeps, kept-passes, none-named, lowest-fault, names-lowest, accepted-decides}
 use Rattle.theory.proofs.Circles.{line-full, circle-named}

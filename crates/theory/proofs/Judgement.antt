@@ -37,39 +37,6 @@ pub kept-passes : (rs : List Refusal) → AllKept rs → judged rs ≡ Verdict.P
 kept-passes [] k = refl
 kept-passes (r ∷ rs) k = rw (held (r .kept) (k .0), judged) (kept-passes rs (k .1))
 
--- a refusal is given, with its item, where its fault is there and no earlier one's is
-pub first-fault-given : (before : List Refusal) (r : Refusal) (after : List Refusal) → AllKept before → (Means (r .kept) → ⊥)
-    → judged (before ++ (r ∷ after)) ≡ Verdict.Refused (r .number) (names r)
-first-fault-given [] r after k f = rw (fails (r .kept) f, judged)
-first-fault-given (b ∷ before) r after k f = rw (held (b .kept) (k .0), judged) (first-fault-given before r after (k .1) f)
-
--- where a verdict's refusal comes from
-pub record FirstFault (rs : List Refusal) (number item : ℕ) : Type 0 where
-  pub before : List Refusal
-  pub refusal : Refusal
-  pub after : List Refusal
-  pub split : rs ≡ before ++ (refusal ∷ after)
-  pub kept : AllKept before
-  pub fault : Means (refusal .kept) → ⊥
-  pub numbered : number ≡ refusal .number
-  pub named : item ≡ names refusal
-
--- a refusal is given only so
-pub given-first-fault : (rs : List Refusal) (number item : ℕ) → judged rs ≡ Verdict.Refused number item → FirstFault rs number item
-given-first-fault [] number item e = let never : _≡_ {A = ℕ} 0 1 = cc in absurd (omega arith)
-given-first-fault (r ∷ rs) number item e = go (holds (r .kept)) refl e (given-first-fault rs number item)
-  where
-    later : Means (r .kept) → FirstFault rs number item → FirstFault (r ∷ rs) number item
-    later m f =
-        record { before = r ∷ f .before; refusal = f .refusal; after = f .after; split = ap (λ (k : List Refusal). r ∷ k) (f .split); kept = (m, f .kept); fault = f .fault; numbered = f .numbered; named = f .named }
-
-    go : (b : Bool) → holds (r .kept) ≡ b
-        → _≡_ {A = Verdict} (elim b [ true ↦ judged rs | false ↦ Verdict.Refused (r .number) (names r) ]) (Verdict.Refused number item)
-        → (judged rs ≡ Verdict.Refused number item → FirstFault rs number item) → FirstFault (r ∷ rs) number item
-    go true h p rest = later (means (r .kept) h) (rest p)
-    go false h p rest =
-        record { before = []; refusal = r; after = rs; split = refl; kept = tt; fault = denies (r .kept) h; numbered = cc; named = cc }
-
 -- the lowest item that breaks a clause, where one below the count does
 pub lowest-fault : (items : ℕ) (clause : ℕ → Formula) → lowest (λ k. not (holds (clause k))) items < items
     → LowestFault clause items (lowest (λ k. not (holds (clause k))) items)

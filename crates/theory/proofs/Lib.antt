@@ -11,6 +11,7 @@ pub mod Groups
 pub mod Heights
 pub mod Index
 pub mod Judgement
+pub mod Keys
 pub mod LineOrder
 pub mod Lists
 pub mod Lowest

@@ -1,12 +1,12 @@
--- Laws of lists: a function's values, and what is past a place.
+-- Laws of lists: a function's values, what is past a place, and a part of a table of zeros.
 use mathlib.Core.Path.{_≡_, refl, sym, ap, _∙_}
 use mathlib.Core.List.{List, [], _∷_, _++_}
 use Prim.Native.Nat.{ℕ, zero, suc, _+_, _-_, _<_, _≤_}
 use native.Mathlib.Nat.{add-zero, zero-add, add-suc, suc-add, le-of-suc-le-suc, not-suc-le-zero}
 use native.Mathlib.Numerals.{add-one}
 use native.Mathlib.Omega.{arith}
-use lib.ListN.{length, getD, drop}
-use lib.Seq.{drop-drop, ext-getD}
+use lib.ListN.{length, getD, take, drop, replicate, length-replicate}
+use lib.Seq.{length-take-le, drop-drop, ext-getD}
 use Rattle.subdivision.specs.Lists.{tab, tabFrom}
 
 module _ {A : Type 0} (f : ℕ → A) where
@@ -51,3 +51,7 @@ pub past-later : (n k : ℕ) (l m : List ℕ) → drop k l ≡ drop k m → k �
 past-later n k l m e h =
     let at : k + (n - k) ≡ n = omega arith in
     rw at at (sym (drop-drop (n - k) k l) ∙ ap (drop (n - k)) e ∙ drop-drop (n - k) k m)
+
+-- a part of a table of zeros is as long as asked
+pub zeros-part : (room n : ℕ) → n ≤ room → n ≡ length (take n (replicate {A = ℕ} room 0))
+zeros-part room n h = sym (length-take-le n (replicate {A = ℕ} room 0) (rw length-replicate h))

@@ -10,13 +10,13 @@ use native.Mathlib.Omega.{arith}
 use lib.Dec.{eqb}
 use lib.IntN.{ℤ, pos}
 use lib.ListN.{length, getD}
-use borrow.Author.Tests.{eqb-true, eq-eqb}
+use borrow.Author.Tests.{eqb-true, eq-eqb, not-true}
 use Rattle.subdivision.specs.Formula.{Formula, both, isEqual, notSo, holds, Means}
 use Rattle.subdivision.specs.Lowest.{lowest}
 use Rattle.subdivision.specs.Order.{Before, SortedBelow}
 use Rattle.subdivision.specs.Sheet.{sheetOf, vertexX, vertexY}
 use Rattle.subdivision.specs.Rules.{vertexNew}
-use Rattle.theory.proofs.Decide.{not-true, true-or-false, means, denies, fails, broken-item}
+use Rattle.theory.proofs.Decide.{true-or-false, means, denies, fails, broken-item}
 use Rattle.theory.proofs.Groups.{pairKey}
 use Rattle.theory.proofs.Lowest.{leastOf, least-is-lowest}
 use Rattle.theory.proofs.Order.{before-irrefl, before-trans}

@@ -1,7 +1,7 @@
 -- The outer loop's invariant: every edge below e is clear. The inner one's: e is in conflict with no edge below f.
 use mathlib.Core.Path.{_≡_, sym, ap, _∙_}
 use mathlib.Core.Bool.{Bool, not}
-use mathlib.Core.List.{List, []}
+use mathlib.Core.List.{List}
 use mathlib.Core.Logic.{⊎-elim}
 use Prim.Native.Nat.{ℕ, _≤_, _<_, _-_}
 use native.Mathlib.Nat.{not-suc-le-zero}
@@ -9,7 +9,7 @@ use native.Mathlib.Numerals.{add-one}
 use native.Mathlib.Omega.{arith}
 use borrow.Author.Needs.{needs}
 use lib.IntN.{ℤ, pos}
-use Rattle.subdivision.specs.Formula.{Formula, notSo, holds, Means}
+use Rattle.subdivision.specs.Formula.{Formula, holds, Means}
 use Rattle.subdivision.specs.Sheet.{Sheet, sheetOf, segment}
 use Rattle.subdivision.specs.Lines.{conflict}
 use Rattle.subdivision.specs.Rules.{edgeClear}

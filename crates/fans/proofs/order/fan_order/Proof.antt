@@ -1,9 +1,16 @@
 -- `fans::order::fan_order` meets its contract: the table of keys orders the edges and starts the fans as the keys do.
-use Prim.Native.Nat.{_≤_}
+use mathlib.Core.Path.{_≡_, sym, ap, _∙_, subst}
+use mathlib.Core.List.{List}
+use Prim.Native.Nat.{ℕ, _≤_}
 use native.Mathlib.Omega.{arith}
 use lib.ListN.{length}
 use borrow.Author.Needs.{needs}
-use Rattle.fans.proofs.FanTables.{order-of-keys, sorted-of-keys, starts-of-keys}
+use Rattle.subdivision.specs.Lists.{tab}
+use Rattle.subdivision.specs.Order.{SortedBelow, inOrder}
+use Rattle.theory.proofs.Groups.{groupStart}
+use Rattle.theory.proofs.Keys.{sorted-by-keys, grouped-by-keys}
+use Rattle.theory.proofs.Order.{sorted-below}
+use Rattle.fans.specs.Fans.{fanKey}
 use Rattle.fans.proofs.order.fan_order.Statement.{statement}
 use Rattle.fans.proofs.order.fan_order.Tie as tie
 
@@ -39,10 +46,15 @@ returns c =
     let sorted = c .before .before .before .before .before .before .before .before .before in
     let filled = sorted .before .before .before .before .before in
     let a = filled .before .before .before .before .before .args in
-    let keys = filled .fan-keys .ensures in
-    let order = sorted .sort .ensures .0 in
-    let fits : length (a .order .now) ≤ 2048 = omega (arith, filled .before .before .before .before .before .pre .0) in
-    (order-of-keys (a .edges .now) (a .eastern) keys fits order, (sorted-of-keys (a .edges .now) (a .eastern) keys fits order, starts-of-keys (a .edges .now) (a .eastern) keys fits (length (a .starts .now)) order (c .before .before .starts .ensures)))
+    let n = length (a .order .now) in
+    let key = fanKey (a .edges .now) (a .eastern) in
+    let keys = filled .fan-keys .last .1 .1 .0 in
+    let order = sorted .sort .last .1 .0 in
+    let grouped = c .before .before .starts in
+    let fits : n ≤ 2048 = omega (arith, filled .before .before .before .before .before .pre .0) in
+    let ordered : order ≡ inOrder key n = sorted-by-keys key keys 2048 n (filled .fan-keys .ensures) fits order (sorted .sort .ensures .0) in
+    let starts = grouped-by-keys key keys 2048 n (filled .fan-keys .ensures) fits order (grouped .last .1 .1 .0) (length (a .starts .now)) (sorted .sort .ensures .0) (grouped .ensures) in
+    (ordered, (subst (λ (l : List ℕ). SortedBelow key n l) (sym ordered) (sorted-below key n), starts ∙ ap (λ (l : List ℕ). tab (groupStart key l) (length (a .starts .now))) ordered))
 
 pub fan-order-spec : {M : Type 1} → statement M
 fan-order-spec =

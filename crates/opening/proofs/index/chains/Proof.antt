@@ -6,7 +6,7 @@ use native.Mathlib.Omega.{arith}
 use lib.ListN.{length}
 use Rattle.subdivision.specs.Limits.{maxEdges}
 use Rattle.subdivision.specs.Lists.{tab}
-use Rattle.opening.proofs.Keys.{sorted-by-keys, grouped-by-keys}
+use Rattle.theory.proofs.Keys.{sorted-by-keys, grouped-by-keys}
 use Rattle.opening.specs.Keys.{placedKey}
 use borrow.Author.Needs.{needs}
 use Rattle.opening.proofs.index.chains.Statement.{statement}

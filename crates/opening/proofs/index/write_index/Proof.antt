@@ -5,7 +5,7 @@ use native.Mathlib.Numerals.{add-one}
 use native.Mathlib.Omega.{arith}
 use lib.ListN.{length}
 use Rattle.subdivision.specs.Limits.{maxEdges, maxZones}
-use Rattle.opening.proofs.Parts.{zeros-part}
+use Rattle.theory.proofs.Lists.{zeros-part}
 use borrow.Author.Needs.{needs}
 use Rattle.opening.proofs.index.write_index.Statement.{statement}
 use Rattle.opening.proofs.index.write_index.Tie as tie

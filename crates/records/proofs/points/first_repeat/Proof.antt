@@ -8,6 +8,7 @@ use lib.ListN.{length, take, drop, replicate, length-replicate}
 use lib.Seq.{length-take-le, length-front, take-at}
 use Rattle.subdivision.specs.Limits.{maxVertices}
 use Rattle.subdivision.specs.Order.{SortedBelow}
+use Rattle.theory.proofs.Lists.{zeros-part}
 use Rattle.theory.proofs.Repeats.{pointKey, least-repeat}
 use Rattle.records.proofs.points.first_repeat.Statement.{statement}
 use Rattle.records.proofs.points.first_repeat.Tie as tie
@@ -19,7 +20,7 @@ table = replicate maxVertices 0
 module _ (n : ℕ) (h : n ≤ maxVertices) where
   -- its front has n places
   front : length (take n table) ≡ n
-  front = length-take-le n table (rw (length-replicate {A = ℕ} maxVertices 0) h)
+  front = sym (zeros-part maxVertices n h)
 
   module _ (order : List ℕ) (long : length order ≡ length (take n table)) where
     -- the front written over has them too

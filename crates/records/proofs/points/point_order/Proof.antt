@@ -1,13 +1,14 @@
 -- The keys that are sorted by are those of the vertices, at every number that is sorted.
-use mathlib.Core.Path.{_≡_, ap, _∙_}
+use mathlib.Core.Path.{_≡_, sym, subst}
 use mathlib.Core.List.{List}
-use Prim.Native.Nat.{ℕ, _<_}
+use Prim.Native.Nat.{ℕ, _≤_}
 use native.Mathlib.Omega.{arith}
 use borrow.Author.Needs.{needs}
-use lib.ListN.{length, getD}
+use lib.ListN.{length}
 use Rattle.subdivision.specs.Limits.{maxVertices}
-use Rattle.theory.proofs.Lists.{getD-tab}
-use Rattle.theory.proofs.Order.{sorted-by-same, in-order-same}
+use Rattle.subdivision.specs.Order.{SortedBelow, inOrder}
+use Rattle.theory.proofs.Keys.{sorted-by-keys}
+use Rattle.theory.proofs.Order.{sorted-below}
 use Rattle.theory.proofs.Repeats.{pointKey}
 use Rattle.records.proofs.points.point_order.Statement.{statement}
 use Rattle.records.proofs.points.point_order.Tie as tie
@@ -37,9 +38,9 @@ returns c =
     let key = pointKey (a .vertices .now) in
     let keys = c .before .before .before .before .before .before .before .before .point-keys in
     let found = c .before .before .before .sort in
-    let same : (k : ℕ) → k < n → getD (keys .last .1 .0) k 0 ≡ key k =
-    λ k h. ap (λ (l : List ℕ). getD l k 0) (keys .ensures) ∙ getD-tab key maxVertices k 0 (omega (arith, c .before .before .before .before .before .before .before .before .before .before .before .pre)) in
-    (found .ensures .0 ∙ in-order-same (λ k. getD (keys .last .1 .0) k 0) key n same, sorted-by-same (λ k. getD (keys .last .1 .0) k 0) key n same (found .last .1 .0) (found .ensures .1 .0))
+    let fits : n ≤ maxVertices = omega (arith, c .before .before .before .before .before .before .before .before .before .before .before .pre) in
+    let ordered : found .last .1 .0 ≡ inOrder key n = sorted-by-keys key (keys .last .1 .0) maxVertices n (keys .ensures) fits (found .last .1 .0) (found .ensures .0) in
+    (ordered, subst (λ (l : List ℕ). SortedBelow key n l) (sym ordered) (sorted-below key n))
 
 pub point-order-spec : {M : Type 1} → statement M
 point-order-spec =

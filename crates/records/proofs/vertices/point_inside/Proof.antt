@@ -2,10 +2,10 @@
 use mathlib.Core.Path.{sym, _∙_}
 use native.Mathlib.Omega.{arith}
 use borrow.Author.Needs.{needs}
-use borrow.Author.Tests.{leb-true, leb-false}
+use borrow.Author.Tests.{leb-true, leb-false, not-true, not-false}
 use Rattle.subdivision.specs.Formula.{Formula, both, isAtMost}
 use Rattle.subdivision.specs.Rules.{inRange}
-use Rattle.theory.proofs.Decide.{not-true, not-false, means, denies, fails, computes}
+use Rattle.theory.proofs.Decide.{means, denies, fails, computes}
 use Rattle.records.proofs.vertices.point_inside.Statement.{statement}
 use Rattle.records.proofs.vertices.point_inside.Tie as tie
 
