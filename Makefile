@@ -1,5 +1,6 @@
-# run: the worked cases of document 01 by a program. test: every proof, every must-fail edit, every program, the Rust tests.
-.PHONY: run test
+# run: the worked sheets of document 01 opened by a program, and its other worked cases. test: every proof, every must-fail
+# edit, every program, the Rust tests. bench: how long opening takes, beside plain Rust.
+.PHONY: run test bench
 
 run:
 	@rt check cases > /dev/null || rt check cases
@@ -7,3 +8,6 @@ run:
 
 test:
 	@tests/all
+
+bench:
+	@tests/rust/bench
