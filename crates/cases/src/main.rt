@@ -9,16 +9,16 @@ use subdivision::Segment;
 use subdivision::Side;
 
 // The lens sheet's vertices.
-pub const VERTICES: [i32; 8] = [0, 0, 2, 2, 2, -2, 4, 0];
+const VERTICES: [i32; 8] = [0, 0, 2, 2, 2, -2, 4, 0];
 
 // The lens sheet's edges.
-pub const EDGES: [u32; 16] = [0, 1, 2, 1, 1, 3, 2, 1, 0, 2, 1, 0, 2, 3, 1, 0];
+const EDGES: [u32; 16] = [0, 1, 2, 1, 1, 3, 2, 1, 0, 2, 1, 0, 2, 3, 1, 0];
 
-pub fn text(s: &[u8]) {
+fn text(s: &[u8]) {
     io::write_all(STDOUT_FILENO, s);
 }
 
-pub fn number(n: u32) {
+fn number(n: u32) {
     text(b" ");
     io::print_decimal(STDOUT_FILENO, n as u64);
 }

@@ -264,7 +264,7 @@ fn limits() {
 }
 
 // The worked sheets of document 01, and a wedge for rule 5's western clause.
-pub fn openings() {
+pub(crate) fn openings() {
     lenses();
     twins();
     blanks();

@@ -158,3 +158,13 @@ pub fn accepted(r: &mut Random, vertices: usize, surplus: usize, zones: usize) -
 pub fn largest(r: &mut Random) -> Sheet {
     accepted(r, 1024, 1024, 1024)
 }
+
+/// One vertex on W with an edge to each of 1,023 vertices on E: the largest fan that the limits allow.
+pub fn fan() -> Sheet {
+    let mut s = Sheet { west: 0, east: 1000, zones: 1024, vertices: vec![0, 0], edges: vec![] };
+    for k in 0..1023u32 {
+        s.vertices.extend_from_slice(&[1000, 3 * k as i32]);
+        s.edges.extend_from_slice(&[0, k + 1, k + 1, k]);
+    }
+    s
+}

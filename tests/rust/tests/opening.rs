@@ -17,6 +17,8 @@ fn counts_at_and_past_the_limits() {
     assert_eq!((largest.vertices.len(), largest.edges.len(), largest.zones), (2048, 8192, 1024));
     assert_eq!(opened(&largest, largest.need()), [0, 0], "2,048 edges stand");
     assert_eq!(opened(&largest, largest.need() - 1), [3, 0]);
+    let fan = sheets::fan();
+    assert_eq!(opened(&fan, fan.need()), [0, 0], "one fan of 1,023 edges");
     let mut edge_more = largest.clone();
     edge_more.edges.extend_from_slice(&[0, 1, 0, 1]);
     assert_eq!(opened(&edge_more, 9999), [1, 0], "2,049 edges");

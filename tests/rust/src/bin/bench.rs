@@ -37,18 +37,27 @@ fn shortest(mut run: impl FnMut()) -> Duration {
     (0..15).map(|_| { let start = Instant::now(); run(); start.elapsed() }).min().unwrap()
 }
 
+/// Times opening and the pairs of one sheet, and prints their ratio.
+fn time(name: &str, s: &Sheet) {
+    let mut index = vec![0; s.need()];
+    let opening = shortest(|| assert_eq!(open(s, &mut index), [0, 0]));
+    let edges = segments(s);
+    let pairs = shortest(|| assert_eq!(std::hint::black_box(conflicts(&edges)), 0));
+    println!(
+        "{name}, {} vertices, {} edges, {} zones: opening {:.2} ms; all pairs of edges in plain Rust {:.2} ms; ratio {:.2}",
+        s.vertices.len() / 2,
+        s.edges.len() / 4,
+        s.zones,
+        opening.as_secs_f64() * 1e3,
+        pairs.as_secs_f64() * 1e3,
+        opening.as_secs_f64() / pairs.as_secs_f64()
+    );
+}
+
 fn main() {
     let mut r = Random::new("bench", 21);
     for _ in 0..3 {
-        let s = sheets::largest(&mut r);
-        let mut index = vec![0; s.need()];
-        let opening = shortest(|| assert_eq!(open(&s, &mut index), [0, 0]));
-        let edges = segments(&s);
-        let pairs = shortest(|| assert_eq!(std::hint::black_box(conflicts(&edges)), 0));
-        println!(
-            "{} vertices, {} edges, {} zones: opening {:.2} ms; all pairs of edges in plain Rust {:.2} ms; ratio {:.2}",
-            s.vertices.len() / 2, s.edges.len() / 4, s.zones,
-            opening.as_secs_f64() * 1e3, pairs.as_secs_f64() * 1e3, opening.as_secs_f64() / pairs.as_secs_f64()
-        );
+        time("at every limit", &sheets::largest(&mut r));
     }
+    time("one fan", &sheets::fan());
 }
