@@ -2,6 +2,7 @@
 use native.Mathlib.Omega.{arith}
 use borrow.Author.Needs.{needs}
 use lib.ListN.{length}
+use Rattle.subdivision.specs.Limits.{maxEdges}
 use Rattle.theory.proofs.Keys.{sorted-by-keys, grouped-by-keys}
 use Rattle.line.specs.Waiting.{belowKey}
 use Rattle.line.proofs.by_zone_below.Statement.{statement}
@@ -43,7 +44,7 @@ returns c =
     let keys = filled .below-keys .last .1 .0 in
     let key = belowKey (start .args .edges .now) in
     let n = length (start .args .order .now) in
-    (sorted-by-keys key keys 2048 n (filled .below-keys .ensures) (omega arith) (sorted .last .1 .0) (sorted .ensures .0), grouped-by-keys key keys 2048 n (filled .below-keys .ensures) (omega arith) (sorted .last .1 .0) (grouped .last .1 .1 .0) (length (start .args .begin .now)) (sorted .ensures .0) (grouped .ensures))
+    (sorted-by-keys key keys maxEdges n (filled .below-keys .ensures) (omega arith) (sorted .last .1 .0) (sorted .ensures .0), grouped-by-keys key keys maxEdges n (filled .below-keys .ensures) (omega arith) (sorted .last .1 .0) (grouped .last .1 .1 .0) (length (start .args .begin .now)) (sorted .ensures .0) (grouped .ensures))
 
 pub by-zone-below-spec : {M : Type 1} → statement M
 by-zone-below-spec =

@@ -105,11 +105,11 @@ accepted : (c : tie.After-enum-told2) → Accepted (tables (c .before .before .b
 accepted c = accepted-decides (tables (c .before .before .before .before .before .before .before .before .before .before .before)) .0 (sym (rules-said (c .before .before)) ∙ c .enum-told2 .given .1)
 
 -- the words that the rules wrote
-written : (c : tie.After-enum-told2) → c .before .before .rules .last .1 .1 .1 .1 .1 .0 ≡ put (zoneLine (tables (c .before .before .before .before .before .before .before .before .before .before .before))) (replicate 1024 0)
+written : (c : tie.After-enum-told2) → c .before .before .rules .last .1 .1 .1 .1 .1 .0 ≡ put (zoneLine (tables (c .before .before .before .before .before .before .before .before .before .before .before))) (replicate maxZones 0)
 written c =
     let f = c .before .before .before .before .before .before .before .before .before .before .before .fits in
     let a = c .before .before .before .before .before .before .before .before .before .before .before .args in
-    c .before .before .rules .ensures .1 .0 ∙ (λ i. lineLeft (sheetOf (toZ-ofZ (f .west) i) (toZ-ofZ (f .east) i) (a .vertices .now) (a .edges .now) (a .zones)) (c .enum-told2 .given .1 i) (replicate 1024 0))
+    c .before .before .rules .ensures .1 .0 ∙ (λ i. lineLeft (sheetOf (toZ-ofZ (f .west) i) (toZ-ofZ (f .east) i) (a .vertices .now) (a .edges .now) (a .zones)) (c .enum-told2 .given .1 i) (replicate maxZones 0))
 
 -- the line has as many places as there are zones
 line-long : (c : tie.After-enum-told2) → length (zoneLine (tables (c .before .before .before .before .before .before .before .before .before .before .before))) ≡ c .before .before .before .before .before .before .before .before .before .before .before .args .zones
@@ -119,12 +119,12 @@ line-long c = accepted-line (tables (c .before .before .before .before .before .
 read-back : (c : tie.After-enum-told2) → take (c .before .before .before .before .before .before .before .before .before .before .before .args .zones) (c .before .before .rules .last .1 .1 .1 .1 .1 .0) ≡ zoneLine (tables (c .before .before .before .before .before .before .before .before .before .before .before))
 read-back c =
     let l = zoneLine (tables (c .before .before .before .before .before .before .before .before .before .before .before)) in
-    ap (take (c .before .before .before .before .before .before .before .before .before .before .before .args .zones)) (written c) ∙ take-at l (drop (length l) (replicate 1024 0)) (c .before .before .before .before .before .before .before .before .before .before .before .args .zones) (line-long c)
+    ap (take (c .before .before .before .before .before .before .before .before .before .before .before .args .zones)) (written c) ∙ take-at l (drop (length l) (replicate maxZones 0)) (c .before .before .before .before .before .before .before .before .before .before .before .args .zones) (line-long c)
 
 array-share-prefix-line : tie.Need-array-share-prefix-line
 array-share-prefix-line c =
     let l = zoneLine (tables (c .before .before .before .before .before .before .before .before .before .before .before)) in
-    omega (arith, ap length (written c), length-append l (drop (length l) (replicate 1024 0)), line-long c)
+    omega (arith, ap length (written c), length-append l (drop (length l) (replicate maxZones 0)), line-long c)
 
 slice-aggregate-write-index : tie.Need-slice-aggregate-write-index
 slice-aggregate-write-index c = sym (ap length (read-back (c .before)) ∙ line-long (c .before))

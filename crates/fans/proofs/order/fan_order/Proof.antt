@@ -5,6 +5,7 @@ use Prim.Native.Nat.{ℕ, _≤_}
 use native.Mathlib.Omega.{arith}
 use lib.ListN.{length}
 use borrow.Author.Needs.{needs}
+use Rattle.subdivision.specs.Limits.{maxEdges}
 use Rattle.subdivision.specs.Lists.{tab}
 use Rattle.subdivision.specs.Order.{SortedBelow, inOrder}
 use Rattle.theory.proofs.Groups.{groupStart}
@@ -51,9 +52,9 @@ returns c =
     let keys = filled .fan-keys .last .1 .1 .0 in
     let order = sorted .sort .last .1 .0 in
     let grouped = c .before .before .starts in
-    let fits : n ≤ 2048 = omega (arith, filled .before .before .before .before .before .pre .0) in
-    let ordered : order ≡ inOrder key n = sorted-by-keys key keys 2048 n (filled .fan-keys .ensures) fits order (sorted .sort .ensures .0) in
-    let starts = grouped-by-keys key keys 2048 n (filled .fan-keys .ensures) fits order (grouped .last .1 .1 .0) (length (a .starts .now)) (sorted .sort .ensures .0) (grouped .ensures) in
+    let fits : n ≤ maxEdges = omega (arith, filled .before .before .before .before .before .pre .0) in
+    let ordered : order ≡ inOrder key n = sorted-by-keys key keys maxEdges n (filled .fan-keys .ensures) fits order (sorted .sort .ensures .0) in
+    let starts = grouped-by-keys key keys maxEdges n (filled .fan-keys .ensures) fits order (grouped .last .1 .1 .0) (length (a .starts .now)) (sorted .sort .ensures .0) (grouped .ensures) in
     (ordered, (subst (λ (l : List ℕ). SortedBelow key n l) (sym ordered) (sorted-below key n), starts ∙ ap (λ (l : List ℕ). tab (groupStart key l) (length (a .starts .now))) ordered))
 
 pub fan-order-spec : {M : Type 1} → statement M

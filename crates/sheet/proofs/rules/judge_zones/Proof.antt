@@ -7,6 +7,7 @@ use native.Mathlib.Omega.{arith}
 use borrow.Author.Tests.{lt-ltb, le-ltb}
 use lib.Dec.{ltb}
 use lib.ListN.{length-replicate}
+use Rattle.subdivision.specs.Limits.{maxZones}
 use Rattle.subdivision.specs.declared.Verdict.{Verdict}
 use Rattle.subdivision.specs.Formula.{holds, Means}
 use Rattle.subdivision.specs.Lists.{put}
@@ -55,10 +56,10 @@ passed-12 c =
     none-found 12 (zoneCount s) (zoneNamed s) (circleRefusal s ∷ []) (c .before .first-unnamed .result) (c .before .first-unnamed .ensures) (omega arith)
 
 slice-aggregate-line-through : tie.Need-slice-aggregate-line-through
-slice-aggregate-line-through c = sym (length-replicate {A = ℕ} 1024 0)
+slice-aggregate-line-through c = sym (length-replicate {A = ℕ} maxZones 0)
 
 line-through-requires : tie.Need-line-through-requires
-line-through-requires c κs = let k = counts (c .before .before .before .before .before) in ((omega arith, omega arith), (omega (arith, length-replicate {A = ℕ} 1024 0), omega arith))
+line-through-requires c κs = let k = counts (c .before .before .before .before .before) in ((omega arith, omega arith), (omega (arith, length-replicate {A = ℕ} maxZones 0), omega arith))
 
 -- the lowest zone that the sheet's line leaves
 left : (c : tie.After-line-through)
