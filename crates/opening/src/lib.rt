@@ -14,7 +14,7 @@ ghost use Rattle.subdivision.specs.Accepted.{Accepted};
 ghost use Rattle.subdivision.specs.Index.{indexWords};
 ghost use Rattle.subdivision.specs.Calls.{opening};
 
-pub mod index;
+mod index;
 
 // Opens a sheet: checks 1 to 13 in order, then writes the index to the front of `index`. A refusal writes nothing.
 pub fn open_sheet(
@@ -32,7 +32,7 @@ pub fn open_sheet(
     ensures written { λ r. ⌜ (r ≡ Verdict.Passed → (now (index .exit) ≡ put (indexWords (sheetOf west east (now (vertices .entry)) (now (edges .entry)) zones)) (now (index .entry))) × (length (indexWords (sheetOf west east (now (vertices .entry)) (now (edges .entry)) zones)) ≡ indexNeed zones (length (now (edges .entry)) / 4))) ⌝ }
     ensures untouched { λ r. ⌜ ((number item : ℕ) → r ≡ Verdict.Refused number item → now (index .exit) ≡ now (index .entry)) ⌝ }
 {
-    match sheet::limits::limits(west, east, vertices, edges, zones) {
+    match sheet::limits(west, east, vertices, edges, zones) {
         Verdict::Refused(number, item) => return Verdict::Refused(number, item),
         Verdict::Passed => {}
     }
@@ -40,7 +40,7 @@ pub fn open_sheet(
         return Verdict::Refused(3, 0);
     }
     let mut line = [0u32; MAX_ZONES];
-    match sheet::rules::rules(west, east, vertices, edges, zones, &mut line) {
+    match sheet::rules(west, east, vertices, edges, zones, &mut line) {
         Verdict::Refused(number, item) => return Verdict::Refused(number, item),
         Verdict::Passed => {}
     }

@@ -1,4 +1,4 @@
 -- Laws of the judgement's parts.
-pub mod Parts
 pub mod Scans
 pub mod Unnamed
+pub mod Whole

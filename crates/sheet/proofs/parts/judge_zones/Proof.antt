@@ -23,8 +23,8 @@ use Rattle.theory.proofs.ZoneLine.{line-of-edges}
 use Rattle.line.specs.Waiting.{zonesOf}
 use Rattle.sheet.specs.Judgement.{recordRefusals, zoneRefusals}
 use Rattle.sheet.proofs.Scans.{found, none-found}
-use Rattle.sheet.proofs.rules.judge_zones.Statement.{statement}
-use Rattle.sheet.proofs.rules.judge_zones.Tie as tie
+use Rattle.sheet.proofs.parts.judge_zones.Statement.{statement}
+use Rattle.sheet.proofs.parts.judge_zones.Tie as tie
 
 -- the sheet of the tables
 abbrev tables : tie.Start → Sheet

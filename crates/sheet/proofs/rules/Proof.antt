@@ -6,9 +6,9 @@ use Rattle.subdivision.specs.declared.Verdict.{Verdict}
 use Rattle.subdivision.specs.Sheet.{Sheet, sheetOf}
 use Rattle.subdivision.specs.Refusals.{judged, limitRefusals}
 use Rattle.sheet.specs.Judgement.{recordRefusals, drawingRefusals, zoneRefusals, lineLeft}
-use Rattle.sheet.proofs.Parts.{refused-by-limits, refused-by-records, refused-by-drawing, judged-by-zones, verdict-says}
-use Rattle.sheet.proofs.rules.rules.Statement.{statement}
-use Rattle.sheet.proofs.rules.rules.Tie as tie
+use Rattle.sheet.proofs.Whole.{refused-by-limits, refused-by-records, refused-by-drawing, judged-by-zones, verdict-says}
+use Rattle.sheet.proofs.rules.Statement.{statement}
+use Rattle.sheet.proofs.rules.Tie as tie
 
 -- the sheet of the tables
 abbrev tables : tie.Start → Sheet

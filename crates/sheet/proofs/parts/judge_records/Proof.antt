@@ -15,8 +15,8 @@ use Rattle.subdivision.specs.Refusals.{Refusal, judged, countsKept, limitRefusa
 use Rattle.theory.proofs.Judgement.{passed-keeps}
 use Rattle.sheet.specs.Judgement.{recordRefusals}
 use Rattle.sheet.proofs.Scans.{found, none-found}
-use Rattle.sheet.proofs.rules.judge_records.Statement.{statement}
-use Rattle.sheet.proofs.rules.judge_records.Tie as tie
+use Rattle.sheet.proofs.parts.judge_records.Statement.{statement}
+use Rattle.sheet.proofs.parts.judge_records.Tie as tie
 
 -- the sheet of the tables
 abbrev tables : tie.Start → Sheet

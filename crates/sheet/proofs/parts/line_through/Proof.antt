@@ -16,8 +16,8 @@ use Rattle.subdivision.specs.ZoneLine.{isIn, zoneLine}
 use Rattle.line.specs.Waiting.{zonesOf}
 use Rattle.theory.proofs.Circles.{line-full}
 use Rattle.theory.proofs.Lowest.{lowest-le}
-use Rattle.sheet.proofs.rules.line_through.Statement.{statement}
-use Rattle.sheet.proofs.rules.line_through.Tie as tie
+use Rattle.sheet.proofs.parts.line_through.Statement.{statement}
+use Rattle.sheet.proofs.parts.line_through.Tie as tie
 
 zone-line-requires : tie.Need-zone-line-requires
 zone-line-requires c κs = search needs

@@ -1,12 +1,10 @@
-use crate::limits::limits;
 use line::zone_line;
 use numbers::words::write;
 use subdivision::MAX_ZONES;
 use subdivision::Verdict;
 ghost use mathlib.Core.Path.{_≡_};
 ghost use mathlib.Core.Bool.{true, false, not};
-ghost use mathlib.Core.Logic.{_↔_};
-ghost use Prim.Native.Nat.{ℕ, _≤_, _/_};
+ghost use Prim.Native.Nat.{_≤_, _/_};
 ghost use lib.Dec.{ltb};
 ghost use lib.ListN.{length};
 ghost use Rattle.subdivision.specs.declared.Verdict.{Verdict};
@@ -17,43 +15,11 @@ ghost use Rattle.subdivision.specs.Lowest.{lowest};
 ghost use Rattle.subdivision.specs.Sheet.{sheetOf};
 ghost use Rattle.subdivision.specs.ZoneLine.{isIn, zoneLine};
 ghost use Rattle.subdivision.specs.Refusals.{judged, limitRefusals};
-ghost use Rattle.subdivision.specs.Faults.{GivenBy, tableRefusals};
-ghost use Rattle.subdivision.specs.Accepted.{Accepted};
 ghost use Rattle.line.specs.Waiting.{zonesOf};
 ghost use Rattle.sheet.specs.Judgement.{recordRefusals, drawingRefusals, zoneRefusals, lineLeft};
 
-// The tables judged: refusals 1, 2 and 4 to 13, in order. Where they pass, the line of zones is
-// written to the front of `line`; a refusal writes nothing.
-pub fn rules(
-    west: i32,
-    east: i32,
-    vertices: &[i32],
-    edges: &[u32],
-    zones: u32,
-    line: &mut [u32; MAX_ZONES],
-) -> Verdict
-    ensures verdict { λ r. ⌜ r ≡ judged (tableRefusals (sheetOf west east (now (vertices .entry)) (now (edges .entry)) zones)) ⌝ }
-    ensures written { λ r. ⌜ now (line .exit) ≡ lineLeft (sheetOf west east (now (vertices .entry)) (now (edges .entry)) zones) r (now (line .entry)) ⌝ }
-    ensures accepted { λ r. ⌜ (r ≡ Verdict.Passed) ↔ Accepted (sheetOf west east (now (vertices .entry)) (now (edges .entry)) zones) ⌝ }
-    ensures refused { λ r. ⌜ ((number item : ℕ) → (r ≡ Verdict.Refused number item) ↔ GivenBy (tableRefusals (sheetOf west east (now (vertices .entry)) (now (edges .entry)) zones)) number item) ⌝ }
-{
-    match limits(west, east, vertices, edges, zones) {
-        Verdict::Refused(number, item) => return Verdict::Refused(number, item),
-        Verdict::Passed => {}
-    }
-    match judge_records(west, east, vertices, edges, zones) {
-        Verdict::Refused(number, item) => return Verdict::Refused(number, item),
-        Verdict::Passed => {}
-    }
-    match judge_drawing(west, east, vertices, edges, zones) {
-        Verdict::Refused(number, item) => return Verdict::Refused(number, item),
-        Verdict::Passed => {}
-    }
-    judge_zones(west, east, vertices, edges, zones, line)
-}
-
 // Refusals 4 to 8.
-fn judge_records(west: i32, east: i32, vertices: &[i32], edges: &[u32], zones: u32) -> Verdict
+pub fn judge_records(west: i32, east: i32, vertices: &[i32], edges: &[u32], zones: u32) -> Verdict
     requires { ⌜ judged (limitRefusals (sheetOf west east (now vertices) (now edges) zones)) ≡ Verdict.Passed ⌝ }
     ensures { λ r. ⌜ r ≡ judged (recordRefusals (sheetOf west east (now (vertices .entry)) (now (edges .entry)) zones)) ⌝ }
 {
@@ -83,7 +49,7 @@ fn judge_records(west: i32, east: i32, vertices: &[i32], edges: &[u32], zones: u
 }
 
 // Refusals 9 to 11, on tables whose records are in order.
-fn judge_drawing(west: i32, east: i32, vertices: &[i32], edges: &[u32], zones: u32) -> Verdict
+pub fn judge_drawing(west: i32, east: i32, vertices: &[i32], edges: &[u32], zones: u32) -> Verdict
     requires { ⌜ judged (limitRefusals (sheetOf west east (now vertices) (now edges) zones)) ≡ Verdict.Passed ⌝ }
     requires { ⌜ judged (recordRefusals (sheetOf west east (now vertices) (now edges) zones)) ≡ Verdict.Passed ⌝ }
     ensures { λ r. ⌜ r ≡ judged (drawingRefusals (sheetOf west east (now (vertices .entry)) (now (edges .entry)) zones)) ⌝ }
@@ -106,7 +72,7 @@ fn judge_drawing(west: i32, east: i32, vertices: &[i32], edges: &[u32], zones: u
 }
 
 // Refusals 12 and 13, on tables whose records are in order, and the line of zones.
-fn judge_zones(
+pub fn judge_zones(
     west: i32,
     east: i32,
     vertices: &[i32],

@@ -17,8 +17,8 @@ use Rattle.theory.proofs.Judgement.{AllKept, passed-keeps, lowest-all-means}
 use Rattle.theory.proofs.Lowest.{lowest-le}
 use Rattle.sheet.specs.Judgement.{recordRefusals, drawingRefusals}
 use Rattle.sheet.proofs.Scans.{found, none-found}
-use Rattle.sheet.proofs.rules.judge_drawing.Statement.{statement}
-use Rattle.sheet.proofs.rules.judge_drawing.Tie as tie
+use Rattle.sheet.proofs.parts.judge_drawing.Statement.{statement}
+use Rattle.sheet.proofs.parts.judge_drawing.Tie as tie
 
 -- the sheet of the tables
 abbrev tables : tie.Start → Sheet

@@ -8,8 +8,8 @@ use Rattle.subdivision.specs.Formula.{holds}
 use Rattle.subdivision.specs.Sheet.{Sheet, sheetOf}
 use Rattle.subdivision.specs.Refusals.{marginsKept}
 use Rattle.sheet.proofs.Unnamed.{counts-broken, margins-broken, limits-kept}
-use Rattle.sheet.proofs.limits.limits.Statement.{statement}
-use Rattle.sheet.proofs.limits.limits.Tie as tie
+use Rattle.sheet.proofs.limits.Statement.{statement}
+use Rattle.sheet.proofs.limits.Tie as tie
 
 -- the sheet of the tables
 abbrev tables : tie.Start → Sheet

@@ -9,8 +9,8 @@ use Rattle.subdivision.specs.Formula.{Formula}
 use Rattle.subdivision.specs.Sheet.{sheetOf}
 use Rattle.subdivision.specs.Refusals.{countsKept}
 use Rattle.theory.proofs.Decide.{fails, computes}
-use Rattle.sheet.proofs.limits.counts_kept.Statement.{statement}
-use Rattle.sheet.proofs.limits.counts_kept.Tie as tie
+use Rattle.sheet.proofs.counts.counts_kept.Statement.{statement}
+use Rattle.sheet.proofs.counts.counts_kept.Tie as tie
 
 -- the limits on the tables
 abbrev limits : tie.Start → Formula
