@@ -23,10 +23,10 @@ unfoldable pub twoLenses : ℕ → ℕ → Sheet
 twoLenses upper lower =
     record { west = pos 0; east = pos 4; vertices = pos 0 ∷ pos 0 ∷ pos 2 ∷ pos 0 ∷ pos 4 ∷ pos 0 ∷ pos 1 ∷ pos 1 ∷ pos 1 ∷ negsuc 0 ∷ pos 3 ∷ pos 1 ∷ pos 3 ∷ negsuc 0 ∷ []; edges = 0 ∷ 3 ∷ 3 ∷ 2 ∷ 3 ∷ 1 ∷ 3 ∷ 2 ∷ 0 ∷ 4 ∷ 1 ∷ 0 ∷ 4 ∷ 1 ∷ 1 ∷ 0 ∷ 0 ∷ 1 ∷ 2 ∷ 1 ∷ 1 ∷ 5 ∷ 3 ∷ upper ∷ 5 ∷ 2 ∷ 3 ∷ upper ∷ 1 ∷ 6 ∷ lower ∷ 0 ∷ 6 ∷ 2 ∷ lower ∷ 0 ∷ 1 ∷ 2 ∷ upper ∷ lower ∷ []; zones = 4 }
 
--- the lens sheet with the x of its vertices 1 and 3, and its eastern margin, given
-unfoldable pub wideLens : ℕ → ℕ → ℕ → Sheet
-wideLens east middle far =
-    record { west = pos 0; east = pos east; vertices = pos 0 ∷ pos 0 ∷ pos middle ∷ pos 2 ∷ pos 2 ∷ negsuc 1 ∷ pos far ∷ pos 0 ∷ []; edges = 0 ∷ 1 ∷ 2 ∷ 1 ∷ 1 ∷ 3 ∷ 2 ∷ 1 ∷ 0 ∷ 2 ∷ 1 ∷ 0 ∷ 2 ∷ 3 ∷ 1 ∷ 0 ∷ []; zones = 3 }
+-- the lens sheet with its eastern margin and the x of its vertex 3 given
+unfoldable pub wideLens : ℕ → ℕ → Sheet
+wideLens east far =
+    record { west = pos 0; east = pos east; vertices = pos 0 ∷ pos 0 ∷ pos 2 ∷ pos 2 ∷ pos 2 ∷ negsuc 1 ∷ pos far ∷ pos 0 ∷ []; edges = 0 ∷ 1 ∷ 2 ∷ 1 ∷ 1 ∷ 3 ∷ 2 ∷ 1 ∷ 0 ∷ 2 ∷ 1 ∷ 0 ∷ 2 ∷ 3 ∷ 1 ∷ 0 ∷ []; zones = 3 }
 
 -- a sheet with nothing drawn
 unfoldable pub blank : ℕ → Sheet
@@ -54,14 +54,14 @@ pub worked-refusals :
     -- of its zones all but 0 have a circle at them or below them: the highest stuck zone would be 3
     × (tab (λ z. holds (aboveCircle (twoLenses 1 2) z)) 4 ≡ false ∷ true ∷ true ∷ true ∷ [])
     -- 13 index words give 3, also where a vertex is bad
-    × (opening (wideLens 4 2 4) (tab w 13) ≡ record { verdict = Refused 3 0; index = tab w 13 })
-    × (verdictOn (wideLens 4 2 1000001) w 13 ≡ Refused 3 0)
+    × (opening (wideLens 4 4) (tab w 13) ≡ record { verdict = Refused 3 0; index = tab w 13 })
+    × (verdictOn (wideLens 4 1000001) w 13 ≡ Refused 3 0)
     -- where 3 is judged after the rules it gives 4
-    × (judged (limitRefusals (wideLens 4 2 1000001) ++ (ruleRefusals (wideLens 4 2 1000001) ++ (roomRefusal (wideLens 4 2 1000001) 13 ∷ []))) ≡ Refused 4 3)
+    × (judged (limitRefusals (wideLens 4 1000001) ++ (ruleRefusals (wideLens 4 1000001) ++ (roomRefusal (wideLens 4 1000001) 13 ∷ []))) ≡ Refused 4 3)
     -- x = 1,000,000 stands, 1,000,001 gives 4, and as a margin 2
-    × (verdictOn (wideLens 1000000 2 1000000) w 14 ≡ Passed)
-    × (verdictOn (wideLens 1000000 2 1000001) w 14 ≡ Refused 4 3)
-    × (verdictOn (wideLens 1000001 2 1000000) w 14 ≡ Refused 2 0)
+    × (verdictOn (wideLens 1000000 1000000) w 14 ≡ Passed)
+    × (verdictOn (wideLens 1000000 1000001) w 14 ≡ Refused 4 3)
+    × (verdictOn (wideLens 1000001 1000000) w 14 ≡ Refused 2 0)
     -- nothing drawn: n = 2 gives 12, zone 0; n = 1 is accepted, with its index
     × (verdictOn (blank 2) w 9 ≡ Refused 12 0)
     × (opening (blank 1) (tab w 5) ≡ record { verdict = Passed; index = 0 ∷ 0 ∷ 0 ∷ 0 ∷ w 4 ∷ [] })
