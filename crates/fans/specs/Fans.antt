@@ -28,7 +28,7 @@ module _ (vertices : List ℤ) (edges : List ℕ) where
   abbrev pub isUnder : Bool → ℕ → ℕ → Bool
   isUnder eastern e f = holds (lowerBeside eastern (segmentOf vertices edges e) (segmentOf vertices edges f))
 
-  -- edge f goes before edge e on the way up (up), or on the way down
+  -- edge f is further up than edge e (up), or further down
   abbrev pub goesOn : Bool → Bool → ℕ → ℕ → Bool
   goesOn eastern up e f = elim up [ true ↦ isUnder eastern e f | false ↦ isUnder eastern f e ]
 

@@ -1,4 +1,5 @@
 // Rule 5, names agree: refusal 11.
+use geometry::lines::smaller;
 use geometry::tables::shifted;
 use geometry::tables::vertex_x;
 use geometry::tables::word;
@@ -214,14 +215,4 @@ fn tied_over(
     let c = word(starts, u) as usize;
     let d = word(starts, u + 1) as usize;
     tied::margin_tied(vertices, edges, &eastern[a..b], &eastern[c..d])
-}
-
-// The smaller of two numbers.
-fn smaller(a: u32, b: u32) -> u32
-    ensures { λ r. ⌜ r ≡ min a b ⌝ }
-{
-    if b < a {
-        return b;
-    }
-    a
 }

@@ -147,7 +147,7 @@ fn nearer(vertices: &[i32], edges: &[u32], eastern: bool, e: u32, best: u32, f: 
     best
 }
 
-// Edge f goes before edge e on the way up (up), or on the way down.
+// Edge f is further up than edge e (up), or further down.
 fn goes_on(vertices: &[i32], edges: &[u32], eastern: bool, up: bool, e: u32, f: u32) -> bool
     ensures { λ r. ⌜ r ≡ goesOn (now (vertices .entry)) (now (edges .entry)) eastern up e f ⌝ }
 {

@@ -79,7 +79,7 @@ fn larger(a: u32, b: u32) -> u32
 }
 
 // The smaller of two numbers.
-fn smaller(a: u32, b: u32) -> u32
+pub fn smaller(a: u32, b: u32) -> u32
     ensures { λ r. ⌜ r ≡ min a b ⌝ }
 {
     if b < a {
