@@ -29,12 +29,36 @@ fn area(a: (i64, i64), b: (i64, i64), c: (i64, i64)) -> i64 {
     (b.0 - a.0) * (c.1 - a.1) - (b.1 - a.1) * (c.0 - a.0)
 }
 
+impl Drawing {
+    /// Joins point p, which edge `first` joins already, to the chain of outermost edges over or under the drawing, as far
+    /// as it sees them: each edge that it sees closes a triangle.
+    fn join(&mut self, chain: &mut Vec<usize>, p: usize, first: usize, over: bool) {
+        let (outer, inner, up) = if over { (2, 3, 1) } else { (3, 2, -1) };
+        let mut last = first;
+        while let Some(&e) = chain.last() {
+            let [u, v, ..] = self.edges[e];
+            if up * area(self.points[u], self.points[v], self.points[p]) <= 0 {
+                break;
+            }
+            let triangle = self.faces;
+            self.faces += 1;
+            (self.edges[e][outer], self.edges[last][outer]) = (triangle, triangle);
+            chain.pop();
+            last = self.edges.len();
+            let mut next = [u, p, 1, 0];
+            next[inner] = triangle;
+            self.edges.push(next);
+        }
+        chain.push(last);
+    }
+}
+
 /// A triangulation of points with different abscissas, made from west to east, with as many more edges than points as asked for.
 fn triangulated(r: &mut Random, surplus: usize) -> Option<Drawing> {
     let mut d = Drawing { points: vec![], edges: vec![], faces: 2 };
     let step = 2 * r.between(1, (990_000 / (surplus as i64 + 8)).max(1));
     let tall = [4, 1_000, 999_998][r.below(3) as usize];
-    let (mut over, mut under): (Vec<(usize, usize)>, Vec<(usize, usize)>) = (vec![], vec![]);
+    let (mut over, mut under) = (vec![], vec![]);
     let mut x = -999_998;
     while d.edges.len() < surplus + d.points.len() || d.points.len() < 2 {
         let p = d.points.len();
@@ -48,31 +72,8 @@ fn triangulated(r: &mut Random, surplus: usize) -> Option<Drawing> {
         }
         let first = d.edges.len();
         d.edges.push([p - 1, p, 1, 0]);
-        let (mut last_over, mut last_under) = (first, first);
-        while let Some(&(u, e)) = over.last() {
-            if area(d.points[d.edges[e][0]], d.points[d.edges[e][1]], d.points[p]) <= 0 {
-                break;
-            }
-            let t = d.faces;
-            d.faces += 1;
-            (d.edges[e][2], d.edges[last_over][2]) = (t, t);
-            over.pop();
-            last_over = d.edges.len();
-            d.edges.push([u, p, 1, t]);
-        }
-        while let Some(&(u, e)) = under.last() {
-            if area(d.points[d.edges[e][0]], d.points[d.edges[e][1]], d.points[p]) >= 0 {
-                break;
-            }
-            let t = d.faces;
-            d.faces += 1;
-            (d.edges[e][3], d.edges[last_under][3]) = (t, t);
-            under.pop();
-            last_under = d.edges.len();
-            d.edges.push([u, p, t, 0]);
-        }
-        over.push((d.edges[last_over][0], last_over));
-        under.push((d.edges[last_under][0], last_under));
+        d.join(&mut over, p, first, true);
+        d.join(&mut under, p, first, false);
     }
     (d.edges.len() == surplus + d.points.len()).then_some(d)
 }
