@@ -7,7 +7,7 @@ use subdivision::MAX_EDGES;
 use subdivision::MAX_VERTICES;
 ghost use mathlib.Core.Path.{_≡_};
 ghost use mathlib.Core.Bool.{not, true, false};
-ghost use Prim.Native.Nat.{ℕ, _+_, _-_, _<_, _≤_, _/_, min};
+ghost use Prim.Native.Nat.{ℕ, _+_, _-_, _<_, _≤_, _/_};
 ghost use lib.ListN.{length, getD};
 ghost use Rattle.subdivision.specs.Limits.{maxVertices, maxEdges};
 ghost use Rattle.subdivision.specs.Formula.{holds};
