@@ -1,5 +1,5 @@
 -- Along the points in order the next vertex up the western margin stands at the next place.
-use mathlib.Core.Path.{_≡_, sym, ap}
+use mathlib.Core.Path.{_≡_, ap}
 use mathlib.Core.Logic.{inl, inr, ⊎-elim}
 use Prim.Native.Nat.{ℕ, suc, _<_, _≤_}
 use native.Mathlib.Nat.{eq-or-lt-of-le}
@@ -9,6 +9,7 @@ use Rattle.subdivision.specs.Order.{Before, SortedBelow}
 use Rattle.subdivision.specs.Sheet.{Sheet, westMargin, vertexCount, xOf, yOf}
 use Rattle.subdivision.specs.Accepted.{Rule1, NextOnMargin}
 use Rattle.theory.proofs.Groups.{pairKey}
+use Rattle.theory.proofs.NoCrossing.{same-point}
 use Rattle.theory.proofs.Order.{sorted-below}
 use Rattle.fans.specs.Fans.{pointOrder}
 
@@ -32,16 +33,6 @@ module _ (s : Sheet) where
   point-below i h = points-sorted .numbers i h
 
   module _ (rule1 : Rule1 s) where
-    -- two vertices that are the same point are one
-    same-point : (v u : ℕ) → v < vertexCount s → u < vertexCount s → xOf s v ≡ xOf s u → yOf s v ≡ yOf s u → v ≡ u
-    same-point v u h k p q = omega (arith, not-before, not-after)
-      where
-        not-before : ¬ (v < u)
-        not-before l = rule1 .1 u k v l (p, q)
-
-        not-after : ¬ (u < v)
-        not-after l = rule1 .1 v h u l (sym p, sym q)
-
     y-fits : (v : ℕ) → v < vertexCount s → yOf s v < 4294967296
     y-fits v h = omega (arith, rule1 .0 v h .0 .1 .1)
 
@@ -53,7 +44,7 @@ module _ (s : Sheet) where
         go v u a b (inl l) = l
         go v u a b (inr l) =
             let parts = key-parts (xOf s v) (yOf s v) (xOf s u) (yOf s u) (y-fits v a) (y-fits u b) (l .0) in
-            absurd (omega (arith, same-point v u a b (parts .0) (parts .1), l .1))
+            absurd (omega (arith, same-point s rule1 v u a b (parts .0) (parts .1), l .1))
 
     later-at-least : (i j : ℕ) → i ≤ j → j < vertexCount s → pointKey (pointAt i) ≤ pointKey (pointAt j)
     later-at-least i j h k =
@@ -94,7 +85,7 @@ module _ (s : Sheet) where
       where
         at : (i : ℕ) × (i < vertexCount s) × (pointAt i ≡ v) → (j : ℕ) × (j < vertexCount s) × (pointAt j ≡ u)
             → (i : ℕ) × (suc i < vertexCount s) × (pointAt i ≡ v) × (pointAt (suc i) ≡ u)
-        at (i, h, d) (j, k, e) = (i, room, d, same-point w u (point-below (suc i) room) b across along)
+        at (i, h, d) (j, k, e) = (i, room, d, same-point s rule1 w u (point-below (suc i) room) b across along)
           where
             w : ℕ
             w = pointAt (suc i)

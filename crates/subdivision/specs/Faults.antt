@@ -5,7 +5,8 @@ use mathlib.Core.Logic.{_⊎_}
 use Prim.Native.Nat.{ℕ, _<_}
 use Rattle.subdivision.specs.Formula.{Formula, Means}
 use Rattle.subdivision.specs.Sheet.{Sheet}
-use Rattle.subdivision.specs.Refusals.{Refusal, limitRefusals, roomRefusal, ruleRefusals}
+use Rattle.subdivision.specs.Refusals.{Refusal, unnamed, limitRefusals, roomRefusal, ruleRefusals}
+use Rattle.subdivision.specs.Reading.{onSheet}
 
 -- the named item breaks the clause, and no lower one does
 pub record LowestFault (clause : ℕ → Formula) (items item : ℕ) : Type 0 where
@@ -33,3 +34,7 @@ openingRefusals s words = limitRefusals s ++ (roomRefusal s words ∷ ruleRefusa
 -- the lines of the table about the tables alone, in order: 1, 2, 4 to 13
 abbrev pub tableRefusals : Sheet → List Refusal
 tableRefusals s = limitRefusals s ++ ruleRefusals s
+
+-- the lines of the table that the plain reading checks, in order: 1, 2, 4 to 13, 20
+abbrev pub readingRefusals : Sheet → ℕ → ℕ → List Refusal
+readingRefusals s x y = tableRefusals s ++ (unnamed 20 (onSheet s x y) ∷ [])

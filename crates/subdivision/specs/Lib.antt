@@ -15,6 +15,7 @@ pub mod Refusals
 pub mod Faults
 pub mod Accepted
 pub mod Reading
+pub mod Placed
 pub mod Index
 pub mod Descent
 pub mod Calls

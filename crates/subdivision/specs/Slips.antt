@@ -3,6 +3,7 @@ use mathlib.Core.Path.{_≡_, refl}
 use mathlib.Core.List.{List, [], _∷_}
 use Prim.Native.Nat.{ℕ}
 use lib.IntN.{ℤ, pos, negsuc}
+use Rattle.subdivision.specs.declared.Answer.{Answer}
 use Rattle.subdivision.specs.declared.Answer.the-variants.{Zone}
 use Rattle.subdivision.specs.declared.Verdict.the-variants.{Passed, Refused}
 use Rattle.subdivision.specs.Lowest.{lowest}
@@ -30,6 +31,11 @@ unfoldable pub hiddenName : Sheet
 hiddenName =
     record { west = pos 0; east = pos 2; vertices = pos 0 ∷ pos 0 ∷ pos 1 ∷ pos 0 ∷ pos 2 ∷ pos 0 ∷ []; edges = 0 ∷ 1 ∷ 1 ∷ 0 ∷ 1 ∷ 2 ∷ 2 ∷ 0 ∷ []; zones = 3 }
 
+-- two level lines from margin to margin in two edges each; of the four edges round the middle each names another zone there
+unfoldable pub scattered : Sheet
+scattered =
+    record { west = pos 0; east = pos 2; vertices = pos 0 ∷ pos 0 ∷ pos 1 ∷ pos 0 ∷ pos 2 ∷ pos 0 ∷ pos 0 ∷ pos 10 ∷ pos 1 ∷ pos 10 ∷ pos 2 ∷ pos 10 ∷ []; edges = 0 ∷ 1 ∷ 4 ∷ 0 ∷ 1 ∷ 2 ∷ 2 ∷ 0 ∷ 3 ∷ 4 ∷ 1 ∷ 5 ∷ 4 ∷ 5 ∷ 1 ∷ 3 ∷ []; zones = 6 }
+
 -- an edge that rises by one over three abscissas, with zone 0 below and zone 1 above
 unfoldable pub flatEdge : Sheet
 flatEdge =
@@ -56,5 +62,8 @@ pub slips-told-apart :
     -- the four readings agree on the terraces, and differ where the name is changed
     × (fourReadings terraces (pos 1) (pos 15) ≡ 3 ∷ 3 ∷ 3 ∷ 3 ∷ [])
     × (fourReadings hiddenName (pos 1) (pos 5) ≡ 2 ∷ 2 ∷ 1 ∷ 2 ∷ [])
-unfolding terraces terraceIndex hiddenName flatEdge fourReadings opening reading searching descent indexDescent placeOf zoneAt chainOf eastward chain startOf indexWords firstZone lastZone zoneBeneath zoneOverhead zoneBeneathWest zoneOverheadWest plainReading nextZone zoneLine inOrder bits topBit lowBit lca lowest tab
-slips-told-apart w = (refl, refl, refl, refl, refl, refl, refl)
+    -- on a sheet that breaks rule 5, and no rule before it, no two of the four agree
+    × (reading scattered (pos 1) (pos 5) ≡ Answer.Refused 11 0)
+    × (fourReadings scattered (pos 1) (pos 5) ≡ 2 ∷ 3 ∷ 4 ∷ 5 ∷ [])
+unfolding terraces terraceIndex hiddenName scattered flatEdge fourReadings opening reading searching descent indexDescent placeOf zoneAt chainOf eastward chain startOf indexWords firstZone lastZone zoneBeneath zoneOverhead zoneBeneathWest zoneOverheadWest plainReading nextZone zoneLine inOrder bits topBit lowBit lca lowest tab
+slips-told-apart w = (refl, refl, refl, refl, refl, refl, refl, refl, refl)

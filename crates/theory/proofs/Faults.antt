@@ -1,7 +1,7 @@
 -- The judgement gives a refusal exactly when its own line of the table says so, and passes exactly the sheets that keep every line.
 use mathlib.Core.Path.{_≡_, refl, sym}
 use mathlib.Core.Bool.{Bool, true, false, not}
-use mathlib.Core.List.{List, [], _∷_}
+use mathlib.Core.List.{List, [], _∷_, _++_}
 use mathlib.Core.Logic.{inl, inr, _↔_}
 use Prim.Native.Nat.{ℕ, _<_, _≤_}
 use native.Mathlib.Omega.{arith}
@@ -12,9 +12,10 @@ use Rattle.subdivision.specs.Sheet.{Sheet, vertexCount, edgeCount, zoneCount, a
 use Rattle.subdivision.specs.Rules.{vertexInside, vertexNew, edgeNames, edgeRuns, zonesDiffer, vertexRegular, edgeClear, namesAgree, zoneNamed}
 use Rattle.subdivision.specs.Layout.{indexNeed}
 use Rattle.subdivision.specs.ZoneLine.{isIn, zoneLine}
-use Rattle.subdivision.specs.Refusals.{Refusal, names, unnamed, forEach, judged, countsKept, marginsKept, roomRefusal, circleRefusal, ruleRefusals}
-use Rattle.subdivision.specs.Faults.{LowestFault, Named, GivenBy, openingRefusals, tableRefusals}
+use Rattle.subdivision.specs.Refusals.{Refusal, names, unnamed, forEach, judged, countsKept, marginsKept, limitRefusals, roomRefusal, circleRefusal, ruleRefusals}
+use Rattle.subdivision.specs.Faults.{LowestFault, Named, GivenBy, openingRefusals, tableRefusals, readingRefusals}
 use Rattle.subdivision.specs.Accepted.{Accepted}
+use Rattle.subdivision.specs.Reading.{onSheet}
 use Rattle.theory.proofs.Decide.{means, held, denies, fails}
 use Rattle.theory.proofs.Lowest.{is-lowest, lowest-le}
 use Rattle.theory.proofs.Judgement.{AllKept, passed-keeps, kept-passes, none-named, lowest-fault, names-lowest, accepted-decides}
@@ -57,6 +58,14 @@ says-given (r ∷ rs) number item (inl f) =
     rw (fails (r .kept) (f .1 .0), judged) (λ i. Verdict.Refused (sym (f .0) i) (sym (named-one r item (f .1 .1)) i))
 says-given (r ∷ rs) number item (inr g) = rw (held (r .kept) (g .0), judged) (says-given rs number item (g .1))
 
+-- lines whose judgement names the right items give each refusal exactly when its own line says so
+given-exactly : (rs : List Refusal) → Sound rs → (number item : ℕ) → (judged rs ≡ Verdict.Refused number item) ↔ GivenBy rs number item
+given-exactly rs s number item = (given-says rs s number item, says-given rs number item)
+
+sound-append : (rs qs : List Refusal) → Sound rs → Sound qs → Sound (rs ++ qs)
+sound-append [] qs s t = t
+sound-append (r ∷ rs) qs s t = (s .0, λ k. sound-append rs qs (s .1 k) t)
+
 -- a line that names nothing names nothing
 unnamed-sound : (number : ℕ) (kept : Formula) → Named (unnamed number kept) (names (unnamed number kept))
 unnamed-sound number kept = inl (refl, sym (none-named number kept))
@@ -85,16 +94,27 @@ module _ (s : Sheet) where
           → Named (forEach number items clause) (names (forEach number items clause))
       each number items clause f = inr (names-lowest number items clause f)
 
+  limits-sound : Sound (limitRefusals s)
+  limits-sound = (λ f. unnamed-sound 1 (countsKept s), λ k1. (λ f. unnamed-sound 2 (marginsKept s), λ k2. tt))
+
+  table-sound : Sound (tableRefusals s)
+  table-sound = sound-append (limitRefusals s) (ruleRefusals s) limits-sound rules-sound
+
   -- each refusal about the tables is given exactly when its own line says so
   pub table-refused-exactly : (number item : ℕ) → (judged (tableRefusals s) ≡ Verdict.Refused number item) ↔ GivenBy (tableRefusals s) number item
-  table-refused-exactly number item =
-      (given-says (tableRefusals s) (λ f. unnamed-sound 1 (countsKept s), λ k1. (λ f. unnamed-sound 2 (marginsKept s), λ k2. rules-sound)) number item, says-given (tableRefusals s) number item)
+  table-refused-exactly = given-exactly (tableRefusals s) table-sound
+
+  -- each refusal of the plain reading is given exactly when its own line says so
+  pub reading-refused-exactly : (x y number item : ℕ)
+      → (judged (readingRefusals s x y) ≡ Verdict.Refused number item) ↔ GivenBy (readingRefusals s x y) number item
+  reading-refused-exactly x y =
+      given-exactly (readingRefusals s x y) (sound-append (tableRefusals s) (unnamed 20 (onSheet s x y) ∷ []) table-sound (λ f. unnamed-sound 20 (onSheet s x y), λ k. tt))
 
   module _ (words : ℕ) where
     -- each refusal of opening is given exactly when its own line says so
     pub refused-exactly : (number item : ℕ) → (judged (openingRefusals s words) ≡ Verdict.Refused number item) ↔ GivenBy (openingRefusals s words) number item
-    refused-exactly number item =
-        (given-says (openingRefusals s words) (λ f. unnamed-sound 1 (countsKept s), λ k1. (λ f. unnamed-sound 2 (marginsKept s), λ k2. (λ f. unnamed-sound 3 (roomRefusal s words .kept), λ k3. rules-sound))) number item, says-given (openingRefusals s words) number item)
+    refused-exactly =
+        given-exactly (openingRefusals s words) (sound-append (limitRefusals s) (roomRefusal s words ∷ ruleRefusals s) limits-sound (λ f. unnamed-sound 3 (roomRefusal s words .kept), λ k. rules-sound))
 
     -- a sheet is opened exactly when it is accepted and the index has room
     pub opened-exactly : (judged (openingRefusals s words) ≡ Verdict.Passed) ↔ (Accepted s × (indexNeed (zoneCount s) (edgeCount s) ≤ words))

@@ -23,7 +23,7 @@ side-scaled p q k h =
     by-side (λ s. sideOf (p * k) (q * k) ≡ s) p q (λ l. side-below (p * k) (q * k) (mul-lt-mul-of-pos-right l h)) (λ e. side-on (p * k) (q * k) (ap (λ n. n * k) e))
     (λ l. side-above (p * k) (q * k) (mul-lt-mul-of-pos-right l h))
 
-height-at : (g : Segment) (x : ℕ) → height (2 * x) g ≡ 2 * edgePart g x
+pub height-at : (g : Segment) (x : ℕ) → height (2 * x) g ≡ 2 * edgePart g x
 height-at g x = rw (← mul-sub 2 (g .xe) x, ← mul-sub 2 x (g .xw)) (doubled (g .yw) (g .ye) (g .xe - x) (x - g .xw))
   where
     doubled : (a b c d : ℕ) → a * (2 * c) + b * (2 * d) ≡ 2 * (a * c + b * d)

@@ -1,0 +1,187 @@
+-- A sheet that keeps rules 1 to 5 keeps, as edges in columns, what the rules come to there.
+use mathlib.Core.Path.{_≡_, refl, ap, _∙_}
+use mathlib.Core.Bool.{Bool, true, false, not}
+use mathlib.Core.Logic.{_⊎_, inl, inr, ⊎-elim}
+use Prim.Native.Nat.{ℕ, suc, _+_, _*_, _<_, _≤_}
+use native.Mathlib.Decide.{decLe}
+use native.Mathlib.Nat.{lt-irrefl}
+use native.Mathlib.Numerals.{add-one}
+use native.Mathlib.Omega.{arith}
+use Rattle.subdivision.specs.Limits.{highestCoordinate}
+use Rattle.subdivision.specs.Sheet.{Sheet, westMargin, eastMargin, vertexCount, edgeCount, xOf, yOf, westOf, eastOf, aboveOf, belowOf}
+use Rattle.subdivision.specs.Accepted.{HasEastern, NextOnMargin}
+use Rattle.theory.proofs.FanOrder.{endOf, OfFan}
+use Rattle.theory.proofs.Columns.{Drawing, InColumn, NextInColumn, TopThere, BottomThere, Kept}
+use Rattle.theory.proofs.Scale.{scaled, level, Crosses, NoCrossing}
+use Rattle.theory.proofs.Scaling.{one-scale}
+use Rattle.theory.proofs.NoCrossing.{no-crossing}
+use Rattle.theory.proofs.Drawing.{Drawn, drawingOf}
+use Rattle.theory.proofs.ColumnFans.{fanSide, OfOneVertex, columns-meet, fan-crosses, fan-level, fans-meet, next-of-fan, top-of-fan, bottom-of-fan}
+
+-- an edge of a column is at most as high as the lower of two neighbours, or at least as high as the upper
+beside-neighbours : (d : Drawing) (x e f g : ℕ) → NextInColumn d x e f → InColumn d x g → (d .half x g ≤ d .half x e) ⊎ (d .half x f ≤ d .half x g)
+beside-neighbours d x e f g n c = go (decLe (d .half x g) (d .half x e)) (decLe (d .half x f) (d .half x g))
+  where
+    go : Dec (d .half x g ≤ d .half x e) → Dec (d .half x f ≤ d .half x g) → (d .half x g ≤ d .half x e) ⊎ (d .half x f ≤ d .half x g)
+    go (yes l) m = inl l
+    go (no l) (yes m) = inr m
+    go (no l) (no m) = absurd (n .1 .1 g c (omega arith) (omega arith))
+
+module _ (s : Sheet) (k : Drawn s) where
+  clear : NoCrossing s
+  clear = no-crossing s (k .one) (k .two) (k .four)
+
+  -- rule 2: the ends of an edge are vertices
+  end-vertex : (eastern : Bool) (e : ℕ) → e < edgeCount s → endOf s eastern e < vertexCount s
+  end-vertex true e b = k .two .0 e b .0 .0
+  end-vertex false e b = k .two .0 e b .0 .1
+
+  -- rules 1 and 2: an edge runs to the east, between the margins
+  edge-inside : (e : ℕ) → e < edgeCount s
+      → ((westMargin s ≤ xOf s (westOf s e)) × (xOf s (westOf s e) < xOf s (eastOf s e))) × (xOf s (eastOf s e) ≤ eastMargin s)
+  edge-inside e b =
+      ((k .one .0 (westOf s e) (end-vertex true e b) .1 .0, k .two .1 .0 e b), k .one .0 (eastOf s e) (end-vertex false e b) .1 .1)
+
+  -- rule 1: an edge is nowhere above the highest ordinate
+  edge-capped : (c e : ℕ) → e < edgeCount s → (2 * xOf s (westOf s e) ≤ c) × (c ≤ 2 * xOf s (eastOf s e)) → scaled s c e ≤ level s highestCoordinate
+  edge-capped c e b l = one-scale s (k .two) .scaled-at-most c e highestCoordinate b (l .0) (l .1) (in-range true) (in-range false)
+    where
+      in-range : (eastern : Bool) → yOf s (endOf s eastern e) ≤ highestCoordinate
+      in-range eastern = k .one .0 (endOf s eastern e) (end-vertex eastern e b) .0 .1 .1
+
+  -- ---- rule 3
+
+  -- a vertex strictly between the margins has an eastern and a western fan
+  has-fan : (eastern : Bool) (v : ℕ) → v < vertexCount s → westMargin s < xOf s v → xOf s v < eastMargin s → (f : ℕ) × OfFan s eastern v f
+  has-fan true v b l m = let r = k .three v b .0 (l, m) .1 in (r .0, (r .1, r .2))
+  has-fan false v b l m = let r = k .three v b .0 (l, m) .0 in (r .0, (r .1, r .2))
+
+  -- an edge of the column on one side of the abscissa z is also of the column on the other, or ends at z
+  passes-or-ends : (eastern : Bool) (x y z e : ℕ) → z ≡ fanSide (not eastern) x → z ≡ fanSide eastern y → Crosses s x e
+      → Crosses s y e ⊎ (xOf s (endOf s (not eastern) e) ≡ z)
+  passes-or-ends true x y z e i j c = go (decLe (xOf s (eastOf s e)) z)
+    where
+      go : Dec (xOf s (eastOf s e) ≤ z) → Crosses s y e ⊎ (xOf s (eastOf s e) ≡ z)
+      go (yes l) = inr (omega (arith, c .1))
+      go (no l) = inl (c .0, omega (arith, c .1))
+  passes-or-ends false x y z e i j c = go (decLe z (xOf s (westOf s e)))
+    where
+      go : Dec (z ≤ xOf s (westOf s e)) → Crosses s y e ⊎ (xOf s (westOf s e) ≡ z)
+      go (yes l) = inr (omega (arith, c .1))
+      go (no l) = inl (c .0, omega (arith, c .1))
+
+  -- over an abscissa z strictly between the margins an edge is carried on, by itself or by an edge of the vertex where it ends
+  carried-on : (eastern : Bool) (x y z e : ℕ) → z ≡ fanSide (not eastern) x → z ≡ fanSide eastern y → westMargin s < z → z < eastMargin s → Crosses s x e
+      → (f : ℕ) × Crosses s y f × (scaled s (2 * z) f ≡ scaled s (2 * z) e)
+  carried-on eastern x y z e i j l m c = ⊎-elim (λ (d : Crosses s y e). (e, d, refl)) by-vertex (passes-or-ends eastern x y z e i j c)
+    where
+      by-vertex : xOf s (endOf s (not eastern) e) ≡ z → (f : ℕ) × Crosses s y f × (scaled s (2 * z) f ≡ scaled s (2 * z) e)
+      by-vertex h =
+          let v = endOf s (not eastern) e in
+          let r = has-fan eastern v (end-vertex (not eastern) e (c .0)) (rw h l) (rw h m) in
+          (r .0, fan-crosses s (k .two) eastern y v (r .0) (h ∙ j) (r .1), fans-meet s (k .two) eastern (not eastern) z v (r .0) e h (r .1) (c .0, refl))
+
+  -- ---- rule 5, beside a vertex
+
+  -- neighbours of a column that meet on its west are neighbours of an eastern fan
+  fork-agrees : (x e f : ℕ) → NextInColumn (drawingOf s) x e f → scaled s (2 * x) e ≡ scaled s (2 * x) f → aboveOf s e ≡ belowOf s f
+  fork-agrees x e f n h =
+      ⊎-elim (λ (i : e ≡ f). absurd (lt-irrefl _ (rw i at (n .1 .0)))) by-vertex (columns-meet s clear true true x x x e f refl refl (n .0 .0) (n .0 .1) h)
+    where
+      by-vertex : OfOneVertex s true true x e f → aboveOf s e ≡ belowOf s f
+      by-vertex (v, b, i, (p, q)) = k .five v b .0 .1 e (p .0) f (q .0) (next-of-fan s (k .two) true x v i e f p q n)
+
+  -- the top edges on the two sides of an abscissa that meet there are one, or the top edges of one vertex
+  tops-agree : (x e f : ℕ) → TopThere (drawingOf s) x (scaled s (2 * suc x)) e → TopThere (drawingOf s) (suc x) (scaled s (2 * suc x)) f
+      → scaled s (2 * suc x) e ≡ scaled s (2 * suc x) f → aboveOf s e ≡ aboveOf s f
+  tops-agree x e f t u h = ⊎-elim (ap (aboveOf s)) by-vertex (columns-meet s clear false true x (suc x) (suc x) e f refl refl (t .0) (u .0) h)
+    where
+      by-vertex : OfOneVertex s false true (suc x) e f → aboveOf s e ≡ aboveOf s f
+      by-vertex (v, b, i, (p, q)) = k .five v b .1 .0 e (p .0) f (q .0) .0 (top-of-fan s (k .two) false x v i e p t, top-of-fan s (k .two) true (suc x) v i f q u)
+
+  -- the bottom edges likewise
+  bottoms-agree : (x e f : ℕ) → BottomThere (drawingOf s) x (scaled s (2 * suc x)) e → BottomThere (drawingOf s) (suc x) (scaled s (2 * suc x)) f
+      → scaled s (2 * suc x) e ≡ scaled s (2 * suc x) f → belowOf s e ≡ belowOf s f
+  bottoms-agree x e f t u h = ⊎-elim (ap (belowOf s)) by-vertex (columns-meet s clear false true x (suc x) (suc x) e f refl refl (t .0) (u .0) h)
+    where
+      by-vertex : OfOneVertex s false true (suc x) e f → belowOf s e ≡ belowOf s f
+      by-vertex (v, b, i, (p, q)) = k .five v b .1 .0 e (p .0) f (q .0) .1 (bottom-of-fan s (k .two) false x v i e p t, bottom-of-fan s (k .two) true (suc x) v i f q u)
+
+  -- ---- rule 5, the margin
+
+  -- the height of edge e at the western margin
+  abbrev marginHeight : ℕ → ℕ
+  marginHeight e = scaled s (2 * westMargin s) e
+
+  -- an edge of the first column starts at the margin
+  starts-at-margin : (e : ℕ) → Crosses s (westMargin s) e → xOf s (westOf s e) ≡ westMargin s
+  starts-at-margin e c = omega (arith, edge-inside e (c .0) .0 .0, c .1 .0)
+
+  -- an edge of the first column is at the margin as high as its western vertex
+  margin-level : (e : ℕ) → Crosses s (westMargin s) e → marginHeight e ≡ level s (yOf s (westOf s e))
+  margin-level e c = fan-level s (k .two) true (westMargin s) (westOf s e) e (starts-at-margin e c) (c .0, refl)
+
+  level-at-most : (y z : ℕ) → level s y ≤ level s z → y ≤ z
+  level-at-most y z l = omega (arith, not-above)
+    where
+      not-above : ¬ (z < y)
+      not-above m = omega (arith, one-scale s (k .two) .level-less z y .0 m)
+
+  -- two neighbours of the first column that start apart
+  module _ (e f : ℕ) (n : NextInColumn (drawingOf s) (westMargin s) e f) (h : marginHeight e < marginHeight f) where
+    -- no other edge of the column starts between them
+    none-starts-between : (g : ℕ) → Crosses s (westMargin s) g → (marginHeight g ≤ marginHeight e) ⊎ (marginHeight f ≤ marginHeight g)
+    none-starts-between g c =
+        ⊎-elim (λ l. inl (clear .near (westMargin s) g e c (n .0 .0) l)) (λ l. inr (clear .near (westMargin s) f g (n .0 .1) c l))
+        (beside-neighbours (drawingOf s) (westMargin s) e f g n c)
+
+    -- they start at vertices that are neighbours on the margin
+    next-on-margin : NextOnMargin s (westOf s e) (westOf s f)
+    next-on-margin = ((starts-at-margin e (n .0 .0), starts-at-margin f (n .0 .1)), (rising, next))
+      where
+        rising : yOf s (westOf s e) < yOf s (westOf s f)
+        rising = one-scale s (k .two) .level-less _ _ .1 (rw (← margin-level e (n .0 .0), ← margin-level f (n .0 .1)) h)
+
+        next : (t : ℕ) → t < vertexCount s → (xOf s t ≡ westMargin s) × (yOf s (westOf s e) < yOf s t) → yOf s (westOf s f) ≤ yOf s t
+        next t b m = go (k .three t b .1 .0 (m .0))
+          where
+            go : HasEastern s t → yOf s (westOf s f) ≤ yOf s t
+            go (g, c, i) =
+                let there = fan-level s (k .two) true (westMargin s) t g (m .0) (c, i) in
+                ⊎-elim
+                (λ (l : marginHeight g ≤ marginHeight e). omega (arith, m .1, level-at-most (yOf s t) (yOf s (westOf s e)) (rw (← there, ← margin-level e (n .0 .0)) l)))
+                (λ (l : marginHeight f ≤ marginHeight g). level-at-most (yOf s (westOf s f)) (yOf s t) (rw (← there, ← margin-level f (n .0 .1)) l))
+                (none-starts-between g (fan-crosses s (k .two) true (westMargin s) t g (m .0) (c, i)))
+
+    -- the lower one is the top edge where it starts
+    lower-is-top : TopThere (drawingOf s) (westMargin s) (scaled s (2 * westMargin s)) e
+    lower-is-top =
+        (n .0 .0, λ g c i. ⊎-elim (λ l. l) (λ l. omega (arith, h, i, clear .near (westMargin s) f g (n .0 .1) c l)) (beside-neighbours (drawingOf s) (westMargin s) e f g n c))
+
+    -- the upper one is the bottom edge where it starts
+    upper-is-bottom : BottomThere (drawingOf s) (westMargin s) (scaled s (2 * westMargin s)) f
+    upper-is-bottom =
+        (n .0 .1, λ g c i. ⊎-elim (λ l. omega (arith, h, i, clear .near (westMargin s) g e c (n .0 .0) l)) (λ l. l) (beside-neighbours (drawingOf s) (westMargin s) e f g n c))
+
+    margin-agrees : aboveOf s e ≡ belowOf s f
+    margin-agrees =
+        k .five (westOf s e) (end-vertex true e (n .0 .0 .0)) .1 .1 (westOf s f) (end-vertex true f (n .0 .1 .0)) next-on-margin e (n .0 .0 .0) f (n .0 .1 .0) (
+          top-of-fan s (k .two) true (westMargin s) (westOf s e) (starts-at-margin e (n .0 .0)) e (n .0 .0 .0, refl) lower-is-top,
+          bottom-of-fan s (k .two) true (westMargin s) (westOf s f) (starts-at-margin f (n .0 .1)) f (n .0 .1 .0, refl) upper-is-bottom,
+        )
+
+  pub drawn-kept : Kept (drawingOf s)
+  drawn-kept =
+      record {
+        inside = edge-inside;
+        capped = λ x e c. ((edge-capped (2 * x) e (c .0) (omega (arith, c .1)), edge-capped (2 * suc x) e (c .0) (omega (arith, c .1))), edge-capped (2 * x + 1) e (c .0) (omega (arith, c .1)));
+        apart = clear .apart;
+        near = clear .near;
+        far = λ x e f a b l. rw add-one at (clear .far x e f a b l);
+        onward = λ x e l c. carried-on true x (suc x) (suc x) e refl refl (omega (arith, edge-inside e (c .0) .0 .0, c .1 .0)) l c;
+        back = λ x e l c. carried-on false (suc x) x (suc x) e refl refl (omega arith) (omega (arith, edge-inside e (c .0) .1, c .1 .1)) c;
+        fork = fork-agrees;
+        margin = margin-agrees;
+        tops = tops-agree;
+        bottoms = bottoms-agree;
+      }
