@@ -32,7 +32,7 @@ module _ (s : Sheet) (a : Accepted s) where
   last-in-line : zoneCount s - 1 < length (zoneLine s)
   last-in-line = omega (arith, accepted-line s a, a .counts .1 .1 .0)
 
-  first-is-zone : firstZone s < zoneCount s
+  pub first-is-zone : firstZone s < zoneCount s
   unfolding firstZone
   first-is-zone = line-entry-below s 0 first-in-line
 
