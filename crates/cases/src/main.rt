@@ -1,9 +1,11 @@
 // The worked cases of document 01 that the parts built so far answer, a line each: the worked sheets
-// opened; lca, top bits, and on the lens sheet the order from west to east, the side of each covering
-// edge at the seven points, and rule 4; then rule 4 broken.
+// opened, and the lens's points read; lca, top bits, and on the lens sheet the order from west to
+// east, the side of each covering edge at the seven points, and rule 4; then rule 4 broken.
 mod openings;
+mod readings;
 
 use crate::openings::openings;
+use crate::readings::readings;
 use libc::STDOUT_FILENO;
 use subdivision::Segment;
 use subdivision::Side;
@@ -161,6 +163,7 @@ fn points() {
 
 fn main() {
     openings();
+    readings();
     lca(0, 11);
     lca(7, 9);
     lca(9, 10);

@@ -1,5 +1,6 @@
 // The C ABI: proved functions for tests and for programs in other languages. A `&[T]` is a pointer
 // and then a length. What a caller owes (valid pointers, no overlap) no proof covers.
+use subdivision::Answer;
 use subdivision::Side;
 use subdivision::Verdict;
 ghost use mathlib.Core.Path.{_≡_};
@@ -8,8 +9,8 @@ ghost use Rattle.subdivision.specs.Formula.{holds};
 ghost use Rattle.subdivision.specs.Dyadic.{bits, topBit, lca};
 ghost use Rattle.subdivision.specs.Sheet.{shifted, sheetOf, segmentOf};
 ghost use Rattle.subdivision.specs.Lines.{covers, sideAt, conflict};
-ghost use Rattle.subdivision.specs.Answers.{verdictValues, sideValue};
-ghost use Rattle.subdivision.specs.Calls.{opening};
+ghost use Rattle.subdivision.specs.Answers.{answerValues, verdictValues, sideValue};
+ghost use Rattle.subdivision.specs.Calls.{opening, reading};
 ghost use Rattle.exports.specs.Flags.{flag, sortFits, sortLeaves};
 
 // The bit length of k.
@@ -116,5 +117,28 @@ pub extern "C" fn tw_open(
     match opening::open_sheet(west, east, vertices, edges, zones, index) {
         Verdict::Passed => *out = [0, 0],
         Verdict::Refused(number, item) => *out = [number, item],
+    }
+}
+
+// Reads a point by the plain reading: `out` is the kind (0 refused, 1 vertex, 2 edge, 3 zone), its
+// number, and the item that a refusal names.
+#[no_mangle]
+pub extern "C" fn tw_read(
+    west: i32,
+    east: i32,
+    vertices: &[i32],
+    edges: &[u32],
+    zones: u32,
+    x: i32,
+    y: i32,
+    out: &mut [u32; 3],
+)
+    ensures { λ _. ⌜ now (out .exit) ≡ answerValues (reading (sheetOf west east (now (vertices .entry)) (now (edges .entry)) zones) x y) ⌝ }
+{
+    match reading::read_point(west, east, vertices, edges, zones, x, y) {
+        Answer::Vertex(v) => *out = [1, v, 0],
+        Answer::Edge(e) => *out = [2, e, 0],
+        Answer::Zone(z) => *out = [3, z, 0],
+        Answer::Refused(number, item) => *out = [0, number, item],
     }
 }

@@ -2,16 +2,18 @@
 use mathlib.Core.Path.{_≡_, sym, ap, _∙_}
 use mathlib.Core.Bool.{Bool, true, false}
 use mathlib.Core.Logic.{_⊎_, inl, inr, ⊎-elim, _↔_}
-use Prim.Native.Nat.{ℕ, suc, _+_, _*_, _<_}
+use Prim.Native.Nat.{ℕ, suc, _+_, _*_, _<_, _≤_}
+use native.Mathlib.Decide.{decLe}
 use native.Mathlib.Omega.{arith}
-use Rattle.subdivision.specs.Sheet.{Sheet, vertexCount, edgeCount, xOf, yOf}
-use Rattle.subdivision.specs.Accepted.{Highest, Lowest, NextUp, Rule2}
+use Rattle.subdivision.specs.Sheet.{Sheet, westMargin, eastMargin, vertexCount, edgeCount, xOf, yOf}
+use Rattle.subdivision.specs.Accepted.{HasWestern, HasEastern, Highest, Lowest, NextUp, Rule2, Rule3}
 use Rattle.theory.proofs.Beside.{lineBeside}
 use Rattle.theory.proofs.FanOrder.{endOf, OfFan, LowerBeside}
 use Rattle.theory.proofs.Columns.{NextInColumn, TopThere, BottomThere}
 use Rattle.theory.proofs.Scale.{scaled, level, Reaches, Crosses, IsEnd, NoCrossing}
 use Rattle.theory.proofs.Scaling.{one-scale}
 use Rattle.theory.proofs.Drawing.{drawingOf}
+use Rattle.theory.proofs.Transects.{passing, OnTransect}
 
 -- the abscissa of column x at which the vertices of its eastern, or of its western, fans are
 abbrev pub fanSide : Bool → ℕ → ℕ
@@ -27,6 +29,16 @@ module _ (s : Sheet) where
   column-reaches : (eastern : Bool) (x e : ℕ) → Crosses s x e → Reaches s (fanSide eastern x) e
   column-reaches true x e c = (c .0, omega (arith, c .1))
   column-reaches false x e c = (c .0, omega (arith, c .1))
+
+  -- an edge that passes an abscissa of a column crosses the column
+  pub passing-crosses : (eastern : Bool) (x e : ℕ) → OnTransect s (fanSide eastern x) (passing e) → Crosses s x e
+  passing-crosses true x e p = (p .0, omega (arith, p .1))
+  passing-crosses false x e p = (p .0, omega (arith, p .1))
+
+  -- an edge of a column passes its abscissa, unless it has an end there
+  pub crossing-passes : (eastern : Bool) (x e : ℕ) → Crosses s x e → (xOf s (endOf s eastern e) ≡ fanSide eastern x → ⊥) → OnTransect s (fanSide eastern x) (passing e)
+  crossing-passes true x e c n = (c .0, omega (arith, c .1, n))
+  crossing-passes false x e c n = (c .0, omega (arith, c .1, n))
 
   -- an edge of a column that has an end on one of its abscissas is of that vertex's fan in the column
   end-of-fan : (eastern : Bool) (x v e : ℕ) → xOf s v ≡ fanSide eastern x → Crosses s x e → IsEnd s v e → OfFan s eastern v e
@@ -46,7 +58,32 @@ module _ (s : Sheet) where
       ⊎-elim inl (λ m. inr (m .0, m .1, m .2, (end-of-fan p x (m .0) e (m .2 ∙ i) a (m .3 .0), end-of-fan q y (m .0) f (m .2 ∙ j) b (m .3 .1))))
       (clear .meet z e f (rw i (column-reaches p x e a)) (rw j (column-reaches q y f b)) h)
 
+  -- rule 3: a vertex has a fan in each column between the margins that is beside it
+  pub has-fan : Rule3 s → (eastern : Bool) (x v : ℕ) → westMargin s ≤ x → x < eastMargin s → v < vertexCount s → xOf s v ≡ fanSide eastern x
+      → (e : ℕ) × OfFan s eastern v e
+  has-fan rule3 true x v l m b i = go (decLe (xOf s v) (westMargin s))
+    where
+      paired : HasEastern s v → (e : ℕ) × OfFan s true v e
+      paired (e, h, j) = (e, (h, j))
+
+      go : Dec (xOf s v ≤ westMargin s) → (e : ℕ) × OfFan s true v e
+      go (yes h) = paired (rule3 v b .1 .0 (omega arith))
+      go (no h) = paired (rule3 v b .0 (omega arith) .1)
+  has-fan rule3 false x v l m b i = go (decLe (eastMargin s) (xOf s v))
+    where
+      paired : HasWestern s v → (e : ℕ) × OfFan s false v e
+      paired (e, h, j) = (e, (h, j))
+
+      go : Dec (eastMargin s ≤ xOf s v) → (e : ℕ) × OfFan s false v e
+      go (yes h) = paired (rule3 v b .1 .1 (omega arith))
+      go (no h) = paired (rule3 v b .0 (omega arith) .0)
+
   module _ (rule2 : Rule2 s) where
+    -- rule 2: the ends of an edge are vertices
+    pub end-vertex : (eastern : Bool) (e : ℕ) → e < edgeCount s → endOf s eastern e < vertexCount s
+    end-vertex true e b = rule2 .0 e b .0 .0
+    end-vertex false e b = rule2 .0 e b .0 .1
+
     -- the edges of a fan cross the column beside its vertex
     pub fan-crosses : (eastern : Bool) (x v e : ℕ) → xOf s v ≡ fanSide eastern x → OfFan s eastern v e → Crosses s x e
     fan-crosses true x v e i a = (a .0, omega (arith, ap (xOf s) (a .1), rule2 .1 .0 e (a .0)))

@@ -1,22 +1,22 @@
 -- A sheet that keeps rules 1 to 5 keeps, as edges in columns, what the rules come to there.
-use mathlib.Core.Path.{_≡_, refl, ap, _∙_}
+use mathlib.Core.Path.{_≡_, refl, sym, ap, _∙_}
 use mathlib.Core.Bool.{Bool, true, false, not}
 use mathlib.Core.Logic.{_⊎_, inl, inr, ⊎-elim}
 use Prim.Native.Nat.{ℕ, suc, _+_, _*_, _<_, _≤_}
-use native.Mathlib.Decide.{decLe}
+use native.Mathlib.Decide.{decLe, ℕ-discrete}
 use native.Mathlib.Nat.{lt-irrefl}
 use native.Mathlib.Numerals.{add-one}
 use native.Mathlib.Omega.{arith}
 use Rattle.subdivision.specs.Limits.{highestCoordinate}
 use Rattle.subdivision.specs.Sheet.{Sheet, westMargin, eastMargin, vertexCount, edgeCount, xOf, yOf, westOf, eastOf, aboveOf, belowOf}
 use Rattle.subdivision.specs.Accepted.{HasEastern, NextOnMargin}
-use Rattle.theory.proofs.FanOrder.{endOf, OfFan}
+use Rattle.theory.proofs.FanOrder.{endOf}
 use Rattle.theory.proofs.Columns.{Drawing, InColumn, NextInColumn, TopThere, BottomThere, Kept}
 use Rattle.theory.proofs.Scale.{scaled, level, Crosses, NoCrossing}
 use Rattle.theory.proofs.Scaling.{one-scale}
 use Rattle.theory.proofs.NoCrossing.{no-crossing}
 use Rattle.theory.proofs.Drawing.{Drawn, drawingOf}
-use Rattle.theory.proofs.ColumnFans.{fanSide, OfOneVertex, columns-meet, fan-crosses, fan-level, fans-meet, next-of-fan, top-of-fan, bottom-of-fan}
+use Rattle.theory.proofs.ColumnFans.{fanSide, passing-crosses, crossing-passes, OfOneVertex, columns-meet, has-fan, end-vertex, fan-crosses, fan-level, fans-meet, next-of-fan, top-of-fan, bottom-of-fan}
 
 -- an edge of a column is at most as high as the lower of two neighbours, or at least as high as the upper
 beside-neighbours : (d : Drawing) (x e f g : ℕ) → NextInColumn d x e f → InColumn d x g → (d .half x g ≤ d .half x e) ⊎ (d .half x f ≤ d .half x g)
@@ -31,55 +31,33 @@ module _ (s : Sheet) (k : Drawn s) where
   clear : NoCrossing s
   clear = no-crossing s (k .one) (k .two) (k .four)
 
-  -- rule 2: the ends of an edge are vertices
-  end-vertex : (eastern : Bool) (e : ℕ) → e < edgeCount s → endOf s eastern e < vertexCount s
-  end-vertex true e b = k .two .0 e b .0 .0
-  end-vertex false e b = k .two .0 e b .0 .1
-
   -- rules 1 and 2: an edge runs to the east, between the margins
   edge-inside : (e : ℕ) → e < edgeCount s
       → ((westMargin s ≤ xOf s (westOf s e)) × (xOf s (westOf s e) < xOf s (eastOf s e))) × (xOf s (eastOf s e) ≤ eastMargin s)
   edge-inside e b =
-      ((k .one .0 (westOf s e) (end-vertex true e b) .1 .0, k .two .1 .0 e b), k .one .0 (eastOf s e) (end-vertex false e b) .1 .1)
+      ((k .one .0 (westOf s e) (end-vertex s (k .two) true e b) .1 .0, k .two .1 .0 e b), k .one .0 (eastOf s e) (end-vertex s (k .two) false e b) .1 .1)
 
   -- rule 1: an edge is nowhere above the highest ordinate
   edge-capped : (c e : ℕ) → e < edgeCount s → (2 * xOf s (westOf s e) ≤ c) × (c ≤ 2 * xOf s (eastOf s e)) → scaled s c e ≤ level s highestCoordinate
   edge-capped c e b l = one-scale s (k .two) .scaled-at-most c e highestCoordinate b (l .0) (l .1) (in-range true) (in-range false)
     where
       in-range : (eastern : Bool) → yOf s (endOf s eastern e) ≤ highestCoordinate
-      in-range eastern = k .one .0 (endOf s eastern e) (end-vertex eastern e b) .0 .1 .1
+      in-range eastern = k .one .0 (endOf s eastern e) (end-vertex s (k .two) eastern e b) .0 .1 .1
 
   -- ---- rule 3
 
-  -- a vertex strictly between the margins has an eastern and a western fan
-  has-fan : (eastern : Bool) (v : ℕ) → v < vertexCount s → westMargin s < xOf s v → xOf s v < eastMargin s → (f : ℕ) × OfFan s eastern v f
-  has-fan true v b l m = let r = k .three v b .0 (l, m) .1 in (r .0, (r .1, r .2))
-  has-fan false v b l m = let r = k .three v b .0 (l, m) .0 in (r .0, (r .1, r .2))
-
-  -- an edge of the column on one side of the abscissa z is also of the column on the other, or ends at z
-  passes-or-ends : (eastern : Bool) (x y z e : ℕ) → z ≡ fanSide (not eastern) x → z ≡ fanSide eastern y → Crosses s x e
-      → Crosses s y e ⊎ (xOf s (endOf s (not eastern) e) ≡ z)
-  passes-or-ends true x y z e i j c = go (decLe (xOf s (eastOf s e)) z)
-    where
-      go : Dec (xOf s (eastOf s e) ≤ z) → Crosses s y e ⊎ (xOf s (eastOf s e) ≡ z)
-      go (yes l) = inr (omega (arith, c .1))
-      go (no l) = inl (c .0, omega (arith, c .1))
-  passes-or-ends false x y z e i j c = go (decLe z (xOf s (westOf s e)))
-    where
-      go : Dec (z ≤ xOf s (westOf s e)) → Crosses s y e ⊎ (xOf s (westOf s e) ≡ z)
-      go (yes l) = inr (omega (arith, c .1))
-      go (no l) = inl (c .0, omega (arith, c .1))
-
-  -- over an abscissa z strictly between the margins an edge is carried on, by itself or by an edge of the vertex where it ends
-  carried-on : (eastern : Bool) (x y z e : ℕ) → z ≡ fanSide (not eastern) x → z ≡ fanSide eastern y → westMargin s < z → z < eastMargin s → Crosses s x e
+  -- over an abscissa z an edge is carried on into a column between the margins, by itself or by an edge of the vertex where it ends
+  carried-on : (eastern : Bool) (x y z e : ℕ) → z ≡ fanSide (not eastern) x → z ≡ fanSide eastern y → westMargin s ≤ y → y < eastMargin s → Crosses s x e
       → (f : ℕ) × Crosses s y f × (scaled s (2 * z) f ≡ scaled s (2 * z) e)
-  carried-on eastern x y z e i j l m c = ⊎-elim (λ (d : Crosses s y e). (e, d, refl)) by-vertex (passes-or-ends eastern x y z e i j c)
+  carried-on eastern x y z e i j l m c = go (ℕ-discrete (xOf s (endOf s (not eastern) e)) (fanSide (not eastern) x))
     where
-      by-vertex : xOf s (endOf s (not eastern) e) ≡ z → (f : ℕ) × Crosses s y f × (scaled s (2 * z) f ≡ scaled s (2 * z) e)
-      by-vertex h =
+      go : Dec (xOf s (endOf s (not eastern) e) ≡ fanSide (not eastern) x) → (f : ℕ) × Crosses s y f × (scaled s (2 * z) f ≡ scaled s (2 * z) e)
+      go (no n) = (e, passing-crosses s eastern y e (rw (sym i ∙ j) at (crossing-passes s (not eastern) x e c n)), refl)
+      go (yes h) =
           let v = endOf s (not eastern) e in
-          let r = has-fan eastern v (end-vertex (not eastern) e (c .0)) (rw h l) (rw h m) in
-          (r .0, fan-crosses s (k .two) eastern y v (r .0) (h ∙ j) (r .1), fans-meet s (k .two) eastern (not eastern) z v (r .0) e h (r .1) (c .0, refl))
+          let there = h ∙ sym i in
+          let r = has-fan s (k .three) eastern y v l m (end-vertex s (k .two) (not eastern) e (c .0)) (there ∙ j) in
+          (r .0, fan-crosses s (k .two) eastern y v (r .0) (there ∙ j) (r .1), fans-meet s (k .two) eastern (not eastern) z v (r .0) e there (r .1) (c .0, refl))
 
   -- ---- rule 5, beside a vertex
 
@@ -165,7 +143,7 @@ module _ (s : Sheet) (k : Drawn s) where
 
     margin-agrees : aboveOf s e ≡ belowOf s f
     margin-agrees =
-        k .five (westOf s e) (end-vertex true e (n .0 .0 .0)) .1 .1 (westOf s f) (end-vertex true f (n .0 .1 .0)) next-on-margin e (n .0 .0 .0) f (n .0 .1 .0) (
+        k .five (westOf s e) (end-vertex s (k .two) true e (n .0 .0 .0)) .1 .1 (westOf s f) (end-vertex s (k .two) true f (n .0 .1 .0)) next-on-margin e (n .0 .0 .0) f (n .0 .1 .0) (
           top-of-fan s (k .two) true (westMargin s) (westOf s e) (starts-at-margin e (n .0 .0)) e (n .0 .0 .0, refl) lower-is-top,
           bottom-of-fan s (k .two) true (westMargin s) (westOf s f) (starts-at-margin f (n .0 .1)) f (n .0 .1 .0, refl) upper-is-bottom,
         )
@@ -179,7 +157,7 @@ module _ (s : Sheet) (k : Drawn s) where
         near = clear .near;
         far = λ x e f a b l. rw add-one at (clear .far x e f a b l);
         onward = λ x e l c. carried-on true x (suc x) (suc x) e refl refl (omega (arith, edge-inside e (c .0) .0 .0, c .1 .0)) l c;
-        back = λ x e l c. carried-on false (suc x) x (suc x) e refl refl (omega arith) (omega (arith, edge-inside e (c .0) .1, c .1 .1)) c;
+        back = λ x e l c. carried-on false (suc x) x (suc x) e refl refl l (omega (arith, edge-inside e (c .0) .1, c .1 .1)) c;
         fork = fork-agrees;
         margin = margin-agrees;
         tops = tops-agree;

@@ -4,6 +4,7 @@ pub mod Chains
 pub mod Circles
 pub mod ColumnFans
 pub mod ColumnNames
+pub mod ColumnOrder
 pub mod ColumnReadings
 pub mod Columns
 pub mod Counting
@@ -23,8 +24,10 @@ pub mod LineOrder
 pub mod Lists
 pub mod Lowest
 pub mod LowestOfTwo
+pub mod Meetings
 pub mod Merge
 pub mod NoCrossing
+pub mod Nodes
 pub mod OneThing
 pub mod Order
 pub mod Places
@@ -43,4 +46,6 @@ pub mod Sights
 pub mod Tables
 pub mod Tally
 pub mod Tops
+pub mod TransectNames
+pub mod Transects
 pub mod ZoneLine

@@ -183,18 +183,18 @@ module _ (s : Sheet) where
       same : (p q : ℕ) → ¬ (p < q) → ¬ (q < p) → p ≡ q
       same p q l m = omega arith
 
-  module _ (rule2 : Rule2 s) (rule4 : Rule4 s) where
-    -- of two edges that cross a half line, that is lower which is lower at an end of their overlap
-    pub lower-between : (x e f : ℕ) → Crosses s x e → Crosses s x f
-        → Lower (2 * x + 1) (segment s e) (segment s f)
-        ↔ (Lower (2 * max (segment s e .xw) (segment s f .xw)) (segment s e) (segment s f) ⊎ Lower (2 * min (segment s e .xe) (segment s f .xe)) (segment s e) (segment s f))
-    lower-between x e f a b =
-        by-cases (ℕ-discrete e f)
-        (λ (i : e ≡ f). rw i (λ l. absurd (lower-irreflexive _ (segment s f) l), λ l. absurd (⊎-elim (lower-irreflexive _ (segment s f)) (lower-irreflexive _ (segment s f)) l)))
-        (λ n.
-        let o = both-cross x e f a b in
-        between-ends (segment s e) (segment s f) (no-conflict rule4 e f (a .0) (b .0) n) (2 * x + 1) (omega arith) (omega arith))
+  -- of two edges that cross a half line, that is lower which is lower at an end of their overlap
+  pub lower-between : Rule4 s → (x e f : ℕ) → Crosses s x e → Crosses s x f
+      → Lower (2 * x + 1) (segment s e) (segment s f)
+      ↔ (Lower (2 * max (segment s e .xw) (segment s f .xw)) (segment s e) (segment s f) ⊎ Lower (2 * min (segment s e .xe) (segment s f .xe)) (segment s e) (segment s f))
+  lower-between rule4 x e f a b =
+      by-cases (ℕ-discrete e f)
+      (λ (i : e ≡ f). rw i (λ l. absurd (lower-irreflexive _ (segment s f) l), λ l. absurd (⊎-elim (lower-irreflexive _ (segment s f)) (lower-irreflexive _ (segment s f)) l)))
+      (λ n.
+      let o = both-cross x e f a b in
+      between-ends (segment s e) (segment s f) (no-conflict rule4 e f (a .0) (b .0) n) (2 * x + 1) (omega arith) (omega arith))
 
+  module _ (rule2 : Rule2 s) (rule4 : Rule4 s) where
     -- two different edges, by their heights to the common scale
     module _ (e f : ℕ) (he : e < edgeCount s) (hf : f < edgeCount s) (n : e ≡ f → ⊥) where
       apart-inside : (c : ℕ) → 2 * start e f < c → c < 2 * finish e f → scaled s c e ≡ scaled s c f → ⊥

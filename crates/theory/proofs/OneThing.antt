@@ -2,12 +2,13 @@
 use mathlib.Core.Path.{_≡_, refl, sym, _∙_}
 use mathlib.Core.Logic.{inl, inr, ⊎-elim}
 use Prim.Native.Nat.{ℕ, _*_, _<_}
+use Rattle.subdivision.specs.declared.Answer.{Answer}
 use Rattle.subdivision.specs.declared.Answer.the-variants.{Vertex, Edge, Zone}
 use Rattle.subdivision.specs.Sheet.{Sheet, vertexCount, edgeCount, zoneCount, xOf, yOf, segment}
 use Rattle.subdivision.specs.Lines.{isOn}
 use Rattle.subdivision.specs.Accepted.{Accepted}
 use Rattle.subdivision.specs.Reading.{isVertex, zoneBeneath, plainReading}
-use Rattle.subdivision.specs.Placed.{OnSheet, IsVertex, IsOn, OffVertices, InOneThing, ReadBeneath}
+use Rattle.subdivision.specs.Placed.{OnSheet, IsVertex, IsOn, OffVertices, OffEdges, InOneThing, ReadBeneath}
 use Rattle.theory.proofs.Chains.{accepted-above}
 use Rattle.theory.proofs.Scale.{scaled, level, OneScale, IsEnd}
 use Rattle.theory.proofs.Scaling.{one-scale}
@@ -15,6 +16,17 @@ use Rattle.theory.proofs.NoCrossing.{same-point, no-crossing}
 use Rattle.theory.proofs.Places.{first-is-zone}
 use Rattle.theory.proofs.Searches.{by-search}
 use Rattle.theory.proofs.Readings.{zone-beneath-read}
+
+-- what holds of each vertex that is the point, of each edge that it lies on where it is no vertex, and of the zone read from beneath where it is neither, holds of the plain reading
+pub by-plain : (s : Sheet) (x y : ℕ) (Q : Answer → Type 0)
+    → ((v : ℕ) → v < vertexCount s → IsVertex s x y v → Q (Vertex v))
+    → (OffVertices s x y → (e : ℕ) → e < edgeCount s → IsOn s x y e → Q (Edge e))
+    → (OffVertices s x y → OffEdges s x y → Q (Zone (zoneBeneath s x y)))
+    → Q (plainReading s x y)
+unfolding plainReading
+by-plain s x y Q f g h =
+    by-search (isVertex s x y) (vertexCount s) Q Vertex _ f
+    (λ n. by-search (λ e. isOn (segment s e) x y) (edgeCount s) Q Edge (Zone (zoneBeneath s x y)) (g n) (h n))
 
 module _ (s : Sheet) (a : Accepted s) where
   scale : OneScale s
@@ -45,11 +57,8 @@ module _ (s : Sheet) (a : Accepted s) where
 
   -- the plain reading is the one thing that the point is in
   pub one-thing : (x y : ℕ) → OnSheet s x y → InOneThing s x y (plainReading s x y)
-  unfolding plainReading
   one-thing x y o =
-      by-search (isVertex s x y) (vertexCount s) (InOneThing s x y) Vertex _
-      (λ v b i. ((b, i), λ u c j. vertex-one x y u v c b j i))
-      (λ n. by-search (λ e. isOn (segment s e) x y) (edgeCount s) (InOneThing s x y) Edge (Zone (zoneBeneath s x y)) (on-edge n) (λ m. (n, (m, zone))))
+      by-plain s x y (InOneThing s x y) (λ v b i. ((b, i), λ u c j. vertex-one x y u v c b j i)) on-edge (λ n m. (n, (m, zone)))
     where
       on-edge : OffVertices s x y → (e : ℕ) → e < edgeCount s → IsOn s x y e → InOneThing s x y (Edge e)
       on-edge n e b i = (n, ((b, i), λ f c j. edge-one x y f e n c b j i))

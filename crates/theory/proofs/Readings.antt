@@ -1,4 +1,4 @@
--- The four readings of a point on an accepted sheet: each has one answer, which is the one computed, and where the point equals no vertex and lies on no edge the four agree.
+-- The four readings of a point on an accepted sheet: each has one answer, which is the one computed, and where the point lies on no edge the four agree.
 use mathlib.Core.Path.{_≡_, refl, sym, _∙_}
 use mathlib.Core.Logic.{⊎-elim, _↔_}
 use Prim.Native.Nat.{ℕ, suc, _+_, _*_, _-_, _<_, _≤_}
@@ -11,7 +11,7 @@ use Rattle.subdivision.specs.Lines.{covers, coversWest, isAbove, isBelow}
 use Rattle.subdivision.specs.Neighbours.{isLower, isHighest, isLowest}
 use Rattle.subdivision.specs.Accepted.{Accepted, Lower, Highest}
 use Rattle.subdivision.specs.Reading.{readingLine, readFrom, firstZone, lastZone, zoneBeneath, zoneOverhead, zoneBeneathWest, zoneOverheadWest}
-use Rattle.subdivision.specs.Placed.{OnSheet, Inland, OffVertices, OffEdges, IsOn, Covers, Under, ReadBeneath, ReadOverhead, ReadBeneathWest, ReadOverheadWest, ReadSo, ZonesAgree}
+use Rattle.subdivision.specs.Placed.{OnSheet, Inland, OffEdges, IsOn, Covers, Under, ReadBeneath, ReadOverhead, ReadBeneathWest, ReadOverheadWest, ReadSo, ZonesAgree}
 use Rattle.theory.proofs.Columns.{InColumn, HighestUnder, LowestOver, Kept}
 use Rattle.theory.proofs.Scale.{scaled, level, OneScale}
 use Rattle.theory.proofs.Scaling.{one-scale}
@@ -165,9 +165,9 @@ module _ (s : Sheet) (a : Accepted s) where
             let east : readingLine s x ≡ 2 * x + 1 = rw (lt-ltb x (eastMargin s) (i .1), readingLine) refl in
             omega (arith, western-view .half-line, plain-view x y o .half-line)
 
-  -- off vertices and edges, the four readings agree
-  pub zones-agree : (x y : ℕ) → OnSheet s x y → OffVertices s x y → OffEdges s x y → ZonesAgree s x y (zoneBeneath s x y)
-  zones-agree x y o v off =
+  -- off the edges, the four readings agree
+  pub zones-agree : (x y : ℕ) → OnSheet s x y → OffEdges s x y → ZonesAgree s x y (zoneBeneath s x y)
+  zones-agree x y o off =
       record {
         fromBeneath = refl;
         fromOverhead = sym (zones-agree-plain x y o off);
@@ -175,9 +175,9 @@ module _ (s : Sheet) (a : Accepted s) where
         fromOverheadWest = λ i. sym (zones-agree-west x y i off) ∙ beneath-agrees x y i o;
       }
 
-  -- off vertices and edges, each of the four readings is of one zone and no other
-  pub read-so : (x y : ℕ) → OnSheet s x y → OffVertices s x y → OffEdges s x y → ReadSo s x y (zoneBeneath s x y)
-  read-so x y o v off =
+  -- off the edges, each of the four readings is of one zone and no other
+  pub read-so : (x y : ℕ) → OnSheet s x y → OffEdges s x y → ReadSo s x y (zoneBeneath s x y)
+  read-so x y o off =
       record {
         beneath = zone-beneath-read x y o;
         overhead = rw (agree .fromOverhead) at (zone-overhead-read x y o);
@@ -186,4 +186,4 @@ module _ (s : Sheet) (a : Accepted s) where
       }
     where
       agree : ZonesAgree s x y (zoneBeneath s x y)
-      agree = zones-agree x y o v off
+      agree = zones-agree x y o off

@@ -5,8 +5,7 @@ use Prim.Native.Nat.{ℕ, zero, suc, _<_, _≤_}
 use native.Mathlib.Decide.{decLe}
 use native.Mathlib.Nat.{not-suc-le-zero, lt-suc-self, le-refl}
 use native.Mathlib.Omega.{arith}
-use Rattle.theory.proofs.ColumnNames.{highest-under, lowest-over, column-names-agree, bottom-name-one}
-pub use Rattle.theory.proofs.ColumnNames.{has-top}
+use Rattle.theory.proofs.ColumnNames.{has-top, highest-under, lowest-over, column-names-agree, bottom-name-one}
 use Rattle.theory.proofs.Columns.{Drawing, InColumn, NextInColumn, LowestOver, TopOf, BottomOf, Kept}
 use Rattle.theory.proofs.Flip.{flipped, flip-top, flip-kept}
 

@@ -15,6 +15,7 @@ mod exported {
         pub fn tw_side(vertices: *const i32, vertices_len: usize, edges: *const u32, edges_len: usize, e: u32, x: i32, y: i32) -> i32;
         pub fn tw_conflict(vertices: *const i32, vertices_len: usize, edges: *const u32, edges_len: usize, e: u32, f: u32) -> u32;
         pub fn tw_open(west: i32, east: i32, vertices: *const i32, vertices_len: usize, edges: *const u32, edges_len: usize, zones: u32, index: *mut u32, index_len: usize, out: *mut u32);
+        pub fn tw_read(west: i32, east: i32, vertices: *const i32, vertices_len: usize, edges: *const u32, edges_len: usize, zones: u32, x: i32, y: i32, out: *mut u32);
     }
 }
 
@@ -51,6 +52,14 @@ pub fn open(s: &Sheet, index: &mut [u32]) -> [u32; 2] {
     let mut out = [u32::MAX; 2];
     let (v, e) = (&s.vertices, &s.edges);
     unsafe { exported::tw_open(s.west, s.east, v.as_ptr(), v.len(), e.as_ptr(), e.len(), s.zones, index.as_mut_ptr(), index.len(), out.as_mut_ptr()) };
+    out
+}
+
+/// Reads a point: the kind (0 refused, 1 vertex, 2 edge, 3 zone), its number, and the item that a refusal names.
+pub fn read(s: &Sheet, x: i32, y: i32) -> [u32; 3] {
+    let mut out = [u32::MAX; 3];
+    let (v, e) = (&s.vertices, &s.edges);
+    unsafe { exported::tw_read(s.west, s.east, v.as_ptr(), v.len(), e.as_ptr(), e.len(), s.zones, x, y, out.as_mut_ptr()) };
     out
 }
 

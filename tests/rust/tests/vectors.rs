@@ -1,6 +1,6 @@
-//! Every `sheet` and `open` line of the outside vectors, run against the proved opening.
+//! Every `sheet`, `open` and `read` line of the outside vectors, run against the proved opening and the proved plain reading.
 use std::{fs, path::Path};
-use thawweasel_tests::{open, sheets::Sheet};
+use thawweasel_tests::{open, read, sheets::Sheet};
 
 /// What every word holds before it is lent.
 const LENT: u32 = 0xA5A5_A5A5;
@@ -15,7 +15,7 @@ fn sheet(line: &str) -> Sheet {
     Sheet { west: head[0] as i32, east: head[1] as i32, zones: head[2] as u32, vertices: numbers(parts[1]), edges: numbers(parts[2]) }
 }
 
-fn run(name: &str, line: &str, s: &Sheet) {
+fn run_open(name: &str, line: &str, s: &Sheet) {
     let (call, answer) = line.split_once("->").expect("an answer");
     let words = numbers::<usize>(call)[0];
     let mut index = vec![LENT; words];
@@ -33,10 +33,25 @@ fn run(name: &str, line: &str, s: &Sheet) {
     }
 }
 
+fn run_read(name: &str, line: &str, s: &Sheet) {
+    let (call, answer) = line.split_once("->").expect("an answer");
+    let point: Vec<i32> = numbers(call);
+    let (kind, rest) = answer.trim().split_once(' ').expect("a kind");
+    let values: Vec<u32> = numbers(rest);
+    let expected = match kind {
+        "vertex" => [1, values[0], 0],
+        "edge" => [2, values[0], 0],
+        "zone" => [3, values[0], 0],
+        "refused" => [0, values[0], values[1]],
+        other => panic!("{name}: unknown answer {other}"),
+    };
+    assert_eq!(read(s, point[0], point[1]), expected, "{name}: {line}");
+}
+
 #[test]
-fn every_sheet_opened_as_the_vectors_say() {
+fn every_sheet_opened_and_every_point_read_as_the_vectors_say() {
     let folder = Path::new(env!("CARGO_MANIFEST_DIR")).join("../vectors");
-    let (mut sheets, mut opens) = (0, 0);
+    let (mut sheets, mut opens, mut reads) = (0, 0, 0);
     for entry in fs::read_dir(folder).unwrap() {
         let path = entry.unwrap().path();
         let name = path.file_name().unwrap().to_string_lossy().into_owned();
@@ -49,11 +64,14 @@ fn every_sheet_opened_as_the_vectors_say() {
                 s = sheet(tables);
                 sheets += 1;
             } else if let Some(call) = line.strip_prefix("open ") {
-                run(&name, call, &s);
+                run_open(&name, call, &s);
                 opens += 1;
+            } else if let Some(call) = line.strip_prefix("read ") {
+                run_read(&name, call, &s);
+                reads += 1;
             }
         }
     }
-    println!("vectors: {sheets} sheets, {opens} openings");
-    assert!(sheets > 0 && opens > 0, "no vector was run");
+    println!("vectors: {sheets} sheets, {opens} openings, {reads} readings");
+    assert!(sheets > 0 && opens > 0 && reads > 0, "no vector was run");
 }

@@ -1,0 +1,6 @@
+-- Laws of the plain reading's scans and promises, a file a subject.
+pub mod Answers
+pub mod Highest
+pub mod OnePass
+pub mod Promises
+pub mod Tests

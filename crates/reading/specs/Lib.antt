@@ -1,0 +1,2 @@
+-- The plain reading as its scans make it.
+pub mod Nearest

@@ -1,0 +1,49 @@
+// The plain reading of a point: the tables are judged, and then every vertex and every edge is looked at. It needs no index.
+use crate::points::on_sheet;
+use crate::points::place;
+use geometry::tables::shifted;
+use subdivision::Answer;
+use subdivision::MAX_ZONES;
+use subdivision::Verdict;
+ghost use mathlib.Core.Path.{_≡_};
+ghost use mathlib.Core.Logic.{_↔_};
+ghost use Prim.Native.Nat.{ℕ};
+ghost use Rattle.subdivision.specs.declared.Answer.{Answer};
+ghost use Rattle.subdivision.specs.Sheet.{shifted, sheetOf};
+ghost use Rattle.subdivision.specs.Faults.{GivenBy, readingRefusals};
+ghost use Rattle.subdivision.specs.Accepted.{Accepted};
+ghost use Rattle.subdivision.specs.Placed.{OnSheet, OffVertices, OffEdges, InOneThing, ReadSo, ZonesAgree};
+ghost use Rattle.subdivision.specs.Calls.{reading};
+
+mod beneath;
+mod points;
+
+// Reads the point (x, y): the vertex that it equals, else the edge that it lies on, else the zone; or
+// one of the refusals 1, 2, 4 to 13 and 20, in that order.
+pub fn read_point(
+    west: i32,
+    east: i32,
+    vertices: &[i32],
+    edges: &[u32],
+    zones: u32,
+    x: i32,
+    y: i32,
+) -> Answer
+    ensures answer { λ r. ⌜ r ≡ reading (sheetOf west east (now (vertices .entry)) (now (edges .entry)) zones) x y ⌝ }
+    ensures refused { λ r. ⌜ ((number item : ℕ) → (r ≡ Answer.Refused number item) ↔ GivenBy (readingRefusals (sheetOf west east (now (vertices .entry)) (now (edges .entry)) zones) (shifted x) (shifted y)) number item) ⌝ }
+    ensures one_thing { λ r. ⌜ (Accepted (sheetOf west east (now (vertices .entry)) (now (edges .entry)) zones) → OnSheet (sheetOf west east (now (vertices .entry)) (now (edges .entry)) zones) (shifted x) (shifted y) → InOneThing (sheetOf west east (now (vertices .entry)) (now (edges .entry)) zones) (shifted x) (shifted y) r) ⌝ }
+    ensures agreed { λ r. ⌜ (Accepted (sheetOf west east (now (vertices .entry)) (now (edges .entry)) zones) → OnSheet (sheetOf west east (now (vertices .entry)) (now (edges .entry)) zones) (shifted x) (shifted y) → OffVertices (sheetOf west east (now (vertices .entry)) (now (edges .entry)) zones) (shifted x) (shifted y) → OffEdges (sheetOf west east (now (vertices .entry)) (now (edges .entry)) zones) (shifted x) (shifted y) → (z : ℕ) × (r ≡ Answer.Zone z) × (ZonesAgree (sheetOf west east (now (vertices .entry)) (now (edges .entry)) zones) (shifted x) (shifted y) z × ReadSo (sheetOf west east (now (vertices .entry)) (now (edges .entry)) zones) (shifted x) (shifted y) z)) ⌝ }
+{
+    let mut line = [0u32; MAX_ZONES];
+    match sheet::rules(west, east, vertices, edges, zones, &mut line) {
+        Verdict::Refused(number, item) => return Answer::Refused(number, item),
+        Verdict::Passed => {}
+    }
+    let margin = shifted(east);
+    let px = shifted(x);
+    let py = shifted(y);
+    if !on_sheet(shifted(west), margin, px, py) {
+        return Answer::Refused(20, 0);
+    }
+    place(margin, vertices, edges, line[0], px, py)
+}

@@ -1,0 +1,148 @@
+//! The plain reading of random points, beside a reading in plain Rust by fractions, from beneath and overhead, in the east and in the west.
+use thawweasel_tests::{calls, enough, read, sheets, sheets::Sheet, Random};
+
+/// An edge with its ends and its zones.
+struct Edge {
+    xw: i64,
+    yw: i64,
+    xe: i64,
+    ye: i64,
+    above: u32,
+    below: u32,
+}
+
+impl Edge {
+    /// The height on the doubled line c: a fraction.
+    fn height(&self, c: i64) -> (i128, i128) {
+        let (left, right) = (c - 2 * self.xw, 2 * self.xe - c);
+        (self.yw as i128 * right as i128 + self.ye as i128 * left as i128, 2 * (self.xe - self.xw) as i128)
+    }
+
+    /// The height at the abscissa x, less y: the sign.
+    fn over(&self, x: i64, y: i64) -> i128 {
+        let (p, q) = self.height(2 * x);
+        (p - y as i128 * q).signum()
+    }
+}
+
+fn edges(s: &Sheet) -> Vec<Edge> {
+    let point = |v: u32| (s.vertices[2 * v as usize] as i64, s.vertices[2 * v as usize + 1] as i64);
+    let edge = |e: &[u32]| {
+        let ((xw, yw), (xe, ye)) = (point(e[0]), point(e[1]));
+        Edge { xw, yw, xe, ye, above: e[2], below: e[3] }
+    };
+    s.edges.chunks(4).map(edge).collect()
+}
+
+/// The line of rule 7.
+fn line(s: &Sheet) -> Vec<u32> {
+    let mut placed: Vec<u32> = vec![];
+    while placed.len() < s.zones as usize {
+        let ready = |z: &u32| !placed.contains(z) && s.edges.chunks(4).all(|e| e[2] != *z || placed.contains(&e[3]));
+        let next = (0..s.zones).find(ready).expect("a zone that can be placed");
+        placed.push(next);
+    }
+    placed
+}
+
+/// The zone read from beneath (side -1) or from overhead (1), among the edges that cover the point, on the doubled line c.
+fn zone(covering: &[&Edge], line: &[u32], x: i64, y: i64, c: i64, side: i128) -> u32 {
+    let mut best: Option<&Edge> = None;
+    for e in covering.iter().filter(|e| e.over(x, y) == side) {
+        let nearer = |b: &Edge| {
+            let ((p, q), (v, w)) = (e.height(c), b.height(c));
+            (p * w - v * q).signum() == -side
+        };
+        if best.is_none_or(nearer) {
+            best = Some(e);
+        }
+    }
+    match (best, side) {
+        (Some(e), -1) => e.above,
+        (Some(e), _) => e.below,
+        (None, -1) => line[0],
+        (None, _) => *line.last().unwrap(),
+    }
+}
+
+/// The plain reading of a point of an accepted sheet; all the readings of a zone must agree.
+fn plain(s: &Sheet, line: &[u32], x: i64, y: i64) -> [u32; 3] {
+    if let Some(v) = s.vertices.chunks(2).position(|v| (v[0] as i64, v[1] as i64) == (x, y)) {
+        return [1, v as u32, 0];
+    }
+    let all = edges(s);
+    if let Some(e) = all.iter().position(|e| e.xw <= x && x <= e.xe && e.over(x, y) == 0) {
+        return [2, e as u32, 0];
+    }
+    let (west, east) = (s.west as i64, s.east as i64);
+    let eastern: Vec<&Edge> = all.iter().filter(|e| e.xw <= x && x < e.xe || x == east && e.xe == east).collect();
+    let c = if x < east { 2 * x + 1 } else { 2 * x - 1 };
+    let found = zone(&eastern, line, x, y, c, -1);
+    assert_eq!(zone(&eastern, line, x, y, c, 1), found, "overhead: ({x}, {y}) of {s:?}");
+    if west < x && x < east {
+        let western: Vec<&Edge> = all.iter().filter(|e| e.xw < x && x <= e.xe).collect();
+        assert_eq!(zone(&western, line, x, y, 2 * x - 1, -1), found, "western: ({x}, {y}) of {s:?}");
+        assert_eq!(zone(&western, line, x, y, 2 * x - 1, 1), found, "western, overhead: ({x}, {y}) of {s:?}");
+    }
+    [3, found, 0]
+}
+
+/// A point at or near a vertex, on an edge, at a margin, or anywhere.
+fn point(r: &mut Random, s: &Sheet) -> (i64, i64) {
+    let v = 2 * r.below(s.vertices.len() as u64 / 2) as usize;
+    let (x, y) = (s.vertices[v] as i64, s.vertices[v + 1] as i64);
+    let near = |r: &mut Random, c: i64| c + r.between(-1, 1);
+    match r.below(6) {
+        0 => (x, y),
+        1 => (near(r, x), near(r, y)),
+        2 => {
+            let e = 4 * r.below(s.edges.len() as u64 / 4) as usize;
+            let (u, w) = (2 * s.edges[e] as usize, 2 * s.edges[e + 1] as usize);
+            ((s.vertices[u] as i64 + s.vertices[w] as i64) / 2, (s.vertices[u + 1] as i64 + s.vertices[w + 1] as i64) / 2)
+        }
+        3 => ([s.west, s.east][r.below(2) as usize] as i64, near(r, y)),
+        4 => (x, r.between(-1_000_000, 1_000_000)),
+        _ => (r.between(s.west as i64, s.east as i64), r.between(-1_000_000, 1_000_000)),
+    }
+}
+
+#[test]
+fn points_are_read_as_by_fractions() {
+    let mut r = Random::new("reading", 13);
+    let mut kinds = [0usize; 4];
+    let (mut margins, mut outer) = (0, 0);
+    for _ in 0..calls(300) {
+        let surplus = r.below(24) as usize;
+        let vertices = surplus + 3 + r.below(surplus as u64 + 1) as usize;
+        let zones = [usize::MAX, 2 + surplus / 2][r.below(2) as usize];
+        let s = sheets::accepted(&mut r, vertices, surplus, zones);
+        let line = line(&s);
+        for _ in 0..20 {
+            let (x, y) = point(&mut r, &s);
+            let on_sheet = s.west as i64 <= x && x <= s.east as i64 && y.abs() <= 1_000_000;
+            let expected = if on_sheet { plain(&s, &line, x, y) } else { [0, 20, 0] };
+            assert_eq!(read(&s, x as i32, y as i32), expected, "({x}, {y}) of {s:?}");
+            kinds[expected[0] as usize] += 1;
+            margins += (expected[0] == 3 && (x == s.west as i64 || x == s.east as i64)) as usize;
+            outer += (expected[0] == 3 && (expected[1] == line[0] || expected[1] == *line.last().unwrap())) as usize;
+        }
+    }
+    enough(&[("refused", kinds[0]), ("vertices", kinds[1]), ("edges", kinds[2]), ("zones", kinds[3]), ("zones at a margin", margins), ("the first or the last zone", outer)]);
+}
+
+#[test]
+fn a_refused_sheet_is_refused_before_its_points() {
+    let lens = Sheet { west: 0, east: 4, zones: 3, vertices: vec![0, 0, 2, 2, 2, -2, 4, 0], edges: vec![0, 1, 2, 1, 1, 3, 2, 1, 0, 2, 1, 0, 2, 3, 1, 0] };
+    assert_eq!(read(&lens, 5, 0), [0, 20, 0]);
+    assert_eq!(read(&lens, 4, 1_000_000), [3, 2, 0]);
+    assert_eq!(read(&lens, 4, 1_000_001), [0, 20, 0]);
+    assert_eq!(read(&lens, 0, -1_000_000), [3, 0, 0]);
+    assert_eq!(read(&lens, 0, -1_000_001), [0, 20, 0]);
+    let one_zone_more = Sheet { zones: 4, ..lens.clone() };
+    assert_eq!(read(&one_zone_more, 5, 0), [0, 12, 3], "12 goes before 20");
+    let blank = Sheet { west: -7, east: 9, zones: 1, ..Sheet::default() };
+    assert_eq!(read(&blank, -7, 3), [3, 0, 0]);
+    assert_eq!(read(&blank, -8, 3), [0, 20, 0]);
+    let none = Sheet { zones: 0, ..blank };
+    assert_eq!(read(&none, 0, 0), [0, 1, 0]);
+}
