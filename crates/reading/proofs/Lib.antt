@@ -3,4 +3,3 @@ pub mod Answers
 pub mod Highest
 pub mod OnePass
 pub mod Promises
-pub mod Tests

@@ -126,6 +126,19 @@ denies p e m = not-both (held p m) e
 pub fails : (p : Formula) → (Means p → ⊥) → holds p ≡ false
 fails p f = ⊎-elim (λ e. absurd (f (means p e))) (λ e. e) (true-or-false (holds p))
 
+-- a formula made of two, where the first is known
+pub both-goes-on : (p q : Formula) → holds p ≡ true → holds (both p q) ≡ holds q
+both-goes-on p q e = rw e
+
+pub both-ends : (p q : Formula) → holds p ≡ false → holds (both p q) ≡ false
+both-ends p q e = rw e
+
+pub either-goes-on : (p q : Formula) → holds p ≡ false → holds (either p q) ≡ holds q
+either-goes-on p q e = rw e
+
+pub either-ends : (p q : Formula) → holds p ≡ true → holds (either p q) ≡ true
+either-ends p q e = rw e
+
 -- a test that passes where a formula is so, and fails where it is not, is the formula computed
 pub computes : (p : Formula) (b : Bool) → (b ≡ true → Means p) → (b ≡ false → Means p → ⊥) → b ≡ holds p
 computes p true f g = sym (held p (f refl))

@@ -1,5 +1,5 @@
 -- One number against another as a side: which side it is.
-use mathlib.Core.Path.{_≡_}
+use mathlib.Core.Path.{_≡_, subst, sym}
 use Prim.Native.Nat.{ℕ, _≤_, _<_}
 use native.Mathlib.Decide.{decLe}
 use native.Mathlib.Nat.{le-of-lt}
@@ -26,3 +26,13 @@ by-side P p q f g h = go (decLe q p) (decLe p q)
     go (no m) n = let k : p < q = omega arith in rw (side-below p q k) (f k)
     go (yes m) (yes n) = let k : p ≡ q = omega arith in rw (side-on p q k) (g k)
     go (yes m) (no n) = let k : q < p = omega arith in rw (side-above p q k) (h k)
+
+-- the first number is below the second, equal to it or above it
+abbrev pub Stands : Side → ℕ → ℕ → Type 0
+Stands Below p q = p < q
+Stands On p q = p ≡ q
+Stands Above p q = q < p
+
+-- what a side says of the two numbers that it compares
+pub side-stands : (p q : ℕ) {s : Side} → s ≡ sideOf p q → Stands s p q
+side-stands p q e = subst (λ s. Stands s p q) (sym e) (by-side (λ s. Stands s p q) p q (λ h. h) (λ h. h) (λ h. h))

@@ -8,7 +8,8 @@ use Rattle.subdivision.specs.declared.Side.{Side}
 use Rattle.subdivision.specs.Formula.{Formula, both, holds}
 use Rattle.subdivision.specs.Sheet.{segmentOf}
 use Rattle.subdivision.specs.Lines.{covers, pointPart, edgePart, isAbove, sideAt}
-use Rattle.reading.proofs.Tests.{both-goes-on, both-ends, Stands, side-stands}
+use Rattle.theory.proofs.Decide.{both-goes-on, both-ends}
+use Rattle.theory.proofs.Sides.{Stands, side-stands}
 use Rattle.reading.proofs.beneath.is_beneath.Statement.{statement}
 use Rattle.reading.proofs.beneath.is_beneath.Tie as tie
 

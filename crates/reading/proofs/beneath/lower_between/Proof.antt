@@ -3,7 +3,7 @@ use mathlib.Core.Path.{sym, _∙_}
 use mathlib.Core.Bool.{true, false}
 use borrow.Author.Needs.{needs}
 use Rattle.geometry.specs.Crossing.{lowerBeside}
-use Rattle.reading.proofs.Tests.{either-goes-on, either-ends}
+use Rattle.theory.proofs.Decide.{either-goes-on, either-ends}
 use Rattle.reading.proofs.beneath.lower_between.Statement.{statement}
 use Rattle.reading.proofs.beneath.lower_between.Tie as tie
 

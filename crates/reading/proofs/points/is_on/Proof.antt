@@ -8,7 +8,8 @@ use Rattle.subdivision.specs.declared.Side.{Side}
 use Rattle.subdivision.specs.Formula.{Formula, both, isAtMost, isEqual, holds}
 use Rattle.subdivision.specs.Lines.{pointPart, edgePart}
 use Rattle.theory.proofs.Decide.{held, fails}
-use Rattle.reading.proofs.Tests.{both-goes-on, both-ends, Stands, side-stands}
+use Rattle.theory.proofs.Decide.{both-goes-on, both-ends}
+use Rattle.theory.proofs.Sides.{Stands, side-stands}
 use Rattle.reading.proofs.points.is_on.Statement.{statement}
 use Rattle.reading.proofs.points.is_on.Tie as tie
 
