@@ -7,8 +7,7 @@ use borrow.Author.Tests.{eq-eqb, ne-eqb}
 use Rattle.subdivision.specs.declared.Side.{Side}
 use Rattle.subdivision.specs.Formula.{Formula, both, isAtMost, isEqual, holds}
 use Rattle.subdivision.specs.Lines.{pointPart, edgePart}
-use Rattle.theory.proofs.Decide.{held, fails}
-use Rattle.theory.proofs.Decide.{both-goes-on, both-ends}
+use Rattle.theory.proofs.Decide.{held, fails, both-goes-on, both-ends}
 use Rattle.theory.proofs.Sides.{Stands, side-stands}
 use Rattle.reading.proofs.points.is_on.Statement.{statement}
 use Rattle.reading.proofs.points.is_on.Tie as tie

@@ -4,8 +4,7 @@ use native.Mathlib.Omega.{arith}
 use borrow.Author.Needs.{needs}
 use Rattle.subdivision.specs.Formula.{Formula, both, isAtMost}
 use Rattle.subdivision.specs.Rules.{inRange}
-use Rattle.theory.proofs.Decide.{held, fails}
-use Rattle.theory.proofs.Decide.{both-goes-on, both-ends}
+use Rattle.theory.proofs.Decide.{held, fails, both-goes-on, both-ends}
 use Rattle.reading.proofs.points.on_sheet.Statement.{statement}
 use Rattle.reading.proofs.points.on_sheet.Tie as tie
 
