@@ -9,7 +9,7 @@ use Rattle.subdivision.specs.Order.{Before, SortedBelow}
 use Rattle.subdivision.specs.Sheet.{Sheet, westMargin, vertexCount, xOf, yOf}
 use Rattle.subdivision.specs.Accepted.{Rule1, NextOnMargin}
 use Rattle.theory.proofs.Groups.{pairKey}
-use Rattle.theory.proofs.NoCrossing.{same-point}
+use Rattle.theory.proofs.Repeats.{same-point}
 use Rattle.theory.proofs.Order.{sorted-below}
 use Rattle.fans.specs.Fans.{pointOrder}
 

@@ -15,7 +15,7 @@ use Rattle.subdivision.specs.ZoneLine.{zoneLine}
 use Rattle.subdivision.specs.Reading.{firstZone}
 use Rattle.subdivision.specs.Accepted.{Accepted}
 use Rattle.theory.proofs.Chains.{accepted-line}
-use Rattle.reading.specs.Nearest.{vertexAt, edgeAt, edgeBeneath, zoneFrom, placed}
+use Rattle.reading.specs.Scans.{vertexAt, edgeOn, edgeBeneath, zoneFrom, placed}
 
 -- a scan that stops below the count chooses the first
 found : {A : Type 0} (k n : ℕ) (a b : A) → k < n → elim (ltb k n) as (λ _. A) [ true ↦ a | false ↦ b ] ≡ a
@@ -37,15 +37,15 @@ module _ (vertices : List ℤ) (edges : List ℕ) (x y margin first : ℕ) where
   pub placed-vertex : {v : ℕ} → v ≡ vertexAt vertices x y → v < length vertices / 2 → placed vertices edges x y margin first ≡ Answer.Vertex v
   placed-vertex s h = rw s (found (vertexAt vertices x y) (length vertices / 2) _ _ (rw s at h))
 
-  pub placed-edge : {v e : ℕ} → v ≡ vertexAt vertices x y → length vertices / 2 ≤ v → e ≡ edgeAt vertices edges x y → e < length edges / 4
+  pub placed-edge : {v e : ℕ} → v ≡ vertexAt vertices x y → length vertices / 2 ≤ v → e ≡ edgeOn vertices edges x y → e < length edges / 4
       → placed vertices edges x y margin first ≡ Answer.Edge e
   placed-edge s h t l =
-      passed (vertexAt vertices x y) (length vertices / 2) _ _ (rw s at h) ∙ rw t (found (edgeAt vertices edges x y) (length edges / 4) _ _ (rw t at l))
+      passed (vertexAt vertices x y) (length vertices / 2) _ _ (rw s at h) ∙ rw t (found (edgeOn vertices edges x y) (length edges / 4) _ _ (rw t at l))
 
-  pub placed-zone : {v e : ℕ} → v ≡ vertexAt vertices x y → length vertices / 2 ≤ v → e ≡ edgeAt vertices edges x y → length edges / 4 ≤ e
+  pub placed-zone : {v e : ℕ} → v ≡ vertexAt vertices x y → length vertices / 2 ≤ v → e ≡ edgeOn vertices edges x y → length edges / 4 ≤ e
       → placed vertices edges x y margin first ≡ Answer.Zone (zoneFrom vertices edges x y margin first)
   placed-zone s h t l =
-      passed (vertexAt vertices x y) (length vertices / 2) _ _ (rw s at h) ∙ passed (edgeAt vertices edges x y) (length edges / 4) _ _ (rw t at l)
+      passed (vertexAt vertices x y) (length vertices / 2) _ _ (rw s at h) ∙ passed (edgeOn vertices edges x y) (length edges / 4) _ _ (rw t at l)
 
 -- where an accepted sheet's line of zones is written over the front of lent words, the first word is its first zone
 pub first-of-line : (s : Sheet) → Accepted s → (lent : List ℕ) → getD (put (zoneLine s) lent) 0 0 ≡ firstZone s

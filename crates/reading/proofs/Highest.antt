@@ -3,8 +3,8 @@ use mathlib.Core.Path.{_≡_, refl, sym, _∙_}
 use mathlib.Core.Bool.{Bool, true, false}
 use mathlib.Core.Logic.{_⊎_, inl, inr, ⊎-elim, _↔_}
 use Prim.Native.Nat.{ℕ, zero, suc, _*_, _<_, _≤_}
-use native.Mathlib.Nat.{not-suc-le-zero, lt-suc-self, le-refl}
-use native.Mathlib.Omega.{arith}
+use native.Mathlib.Nat.{not-suc-le-zero, le-refl}
+use native.Mathlib.Omega.{arith, by-contra}
 use Rattle.subdivision.specs.Formula.{Formula, holds, Means}
 use Rattle.subdivision.specs.Lowest.{lowest}
 use Rattle.subdivision.specs.Sheet.{Sheet, eastMargin, edgeCount, segment}
@@ -17,15 +17,12 @@ use Rattle.theory.proofs.Decide.{below-suc, means, held, denies, fails}
 use Rattle.theory.proofs.Lowest.{is-lowest, lowest-none}
 use Rattle.theory.proofs.NoCrossing.{lower-between}
 use Rattle.theory.proofs.Readings.{highest-one}
-use Rattle.theory.proofs.Scale.{Crosses, scaled}
+use Rattle.theory.proofs.Crossings.{Crosses}
+use Rattle.theory.proofs.Scale.{scaled}
 use Rattle.theory.proofs.Scaling.{one-scale}
 use Rattle.theory.proofs.SideViews.{SideView, view-plain}
-use Rattle.theory.proofs.Tops.{Highest}
-use Rattle.reading.specs.Nearest.{lowerBetween, takesOver, highestTo, edgeBeneath}
-
--- what holds of k and of every number below it holds of every number below k + 1
-one-more : (P : ℕ → Type 0) (k : ℕ) → P k → ((g : ℕ) → g < k → P g) → (g : ℕ) → g < suc k → P g
-one-more P k p f g h = ⊎-elim (λ (i : g ≡ k). rw i p) (f g) (below-suc h)
+use Rattle.theory.proofs.Tops.{Highest, highest-new, highest-kept}
+use Rattle.reading.specs.Scans.{lowerBetween, takesOver, highestTo, edgeBeneath}
 
 module _ (s : Sheet) (x y : ℕ) where
   -- edge k takes the place of edge r in the scan
@@ -52,7 +49,7 @@ module _ (s : Sheet) (x y : ℕ) where
       -- one edge more
       found-next : (k r : ℕ) → k < edgeCount s → Found k r → (b : Bool) → holds (takes r k) ≡ b → Found (suc k) (elim b [ true ↦ k | false ↦ r ])
       found-next k r h found true t =
-          inr (lt-suc-self k, (taken .0, one-more (λ g. Means (beneath s x y g) → high g ≤ high k) k (λ m. le-refl (high k)) (none-higher found)))
+          inr (highest-new (beneath s x y) high k (taken .0) (none-higher found))
         where
           taken : Means (takes r k)
           taken = means (takes r k) t
@@ -65,11 +62,11 @@ module _ (s : Sheet) (x y : ℕ) where
           none-higher (inl f) g l m = absurd (f .1 g l m)
           none-higher (inr f) g l m = omega (arith, f .1 .1 g l m, higher f (taken .1))
       found-next k r h (inl f) false t =
-          inl (f .0, one-more (λ g. Means (beneath s x y g) → ⊥) k (λ m. denies (takes r k) t (m, inl (f .0))) (f .1))
+          inl (f .0, λ g l m. ⊎-elim (λ (i : g ≡ k). denies (takes r k) t (rw i at m, inl (f .0))) (λ b. f .1 g b m) (below-suc l))
       found-next k r h (inr f) false t =
-          inr (omega (arith, f .0), (f .1 .0, one-more (λ g. Means (beneath s x y g) → high g ≤ high r) k (λ m. omega (arith, not-higher m)) (f .1 .1)))
+          inr (highest-kept (beneath s x y) high k r f (λ m. by-contra (high k) (high r) (not-higher m)))
         where
-          not-higher : Means (beneath s x y k) → ¬ (high r < high k)
+          not-higher : Means (beneath s x y k) → high r < high k → ⊥
           not-higher m l = denies (takes r k) t (m, inr (in-order r k (omega (arith, f .0)) h (f .1 .0) m .1 l))
 
       scan-finds : (k : ℕ) → k ≤ edgeCount s → Found k (left k)

@@ -6,7 +6,7 @@ use Prim.Native.Nat.{ℕ, _+_}
 use native.Mathlib.Numerals.{add-one}
 use lib.IntN.{ℤ}
 use Rattle.subdivision.specs.Formula.{holds}
-use Rattle.reading.specs.Nearest.{takesOver, highestTo}
+use Rattle.reading.specs.Scans.{takesOver, highestTo}
 
 module _ (vertices : List ℤ) (edges : List ℕ) (x y margin none : ℕ) where
   next : (k : ℕ)

@@ -3,7 +3,7 @@ use mathlib.Core.Path.{_≡_, refl, sym, ap, _∙_, subst}
 use mathlib.Core.Bool.{Bool, true, false, false≢true}
 use mathlib.Core.List.{[], _∷_}
 use mathlib.Core.Logic.{_↔_}
-use Prim.Native.Nat.{ℕ, _<_}
+use Prim.Native.Nat.{ℕ}
 use lib.Dec.{ltb}
 use lib.IntN.{ℤ}
 use Rattle.subdivision.specs.declared.Answer.{Answer}
@@ -11,21 +11,20 @@ use Rattle.subdivision.specs.declared.Verdict.{Verdict}
 use Rattle.subdivision.specs.declared.Verdict.the-variants.{Passed, Refused}
 use Rattle.subdivision.specs.Formula.{Formula, holds}
 use Rattle.subdivision.specs.Lowest.{lowest}
-use Rattle.subdivision.specs.Sheet.{Sheet, shifted, eastMargin, vertexCount, edgeCount, aboveOf, segment}
-use Rattle.subdivision.specs.Lines.{isOn}
+use Rattle.subdivision.specs.Sheet.{Sheet, shifted, eastMargin, vertexCount, edgeCount, aboveOf}
 use Rattle.subdivision.specs.Neighbours.{isHighest}
 use Rattle.subdivision.specs.Refusals.{names, unnamed, judged}
 use Rattle.subdivision.specs.Faults.{GivenBy, tableRefusals, readingRefusals}
 use Rattle.subdivision.specs.Accepted.{Accepted}
-use Rattle.subdivision.specs.Reading.{onSheet, firstZone, readingLine, isVertex, beneath, zoneBeneath, plainReading}
-use Rattle.subdivision.specs.Placed.{OnSheet, IsVertex, IsOn, OffVertices, OffEdges, InOneThing, ReadSo, ZonesAgree}
+use Rattle.subdivision.specs.Reading.{onSheet, firstZone, readingLine, beneath, zoneBeneath, plainReading}
+use Rattle.subdivision.specs.Placed.{OnSheet, OffVertices, OffEdges, OneThingOnly, ReadingsAgree}
 use Rattle.subdivision.specs.Calls.{reading}
 use Rattle.theory.proofs.Decide.{means, held}
 use Rattle.theory.proofs.Judgement.{judged-append, none-named, accepted-decides}
 use Rattle.theory.proofs.Faults.{reading-refused-exactly}
 use Rattle.theory.proofs.OneThing.{by-plain, one-thing}
 use Rattle.theory.proofs.Readings.{zones-agree, read-so}
-use Rattle.reading.specs.Nearest.{vertexAt, edgeAt, edgeBeneath, zoneFrom, placed}
+use Rattle.reading.specs.Scans.{vertexAt, edgeOn, edgeBeneath, zoneFrom, placed}
 use Rattle.reading.proofs.Highest.{highest-beneath}
 
 module _ (s : Sheet) (x y : ℕ) where
@@ -55,7 +54,7 @@ module _ (s : Sheet) (x y : ℕ) where
         v = vertexAt (s .vertices) x y
 
         f : ℕ
-        f = edgeAt (s .vertices) (s .edges) x y
+        f = edgeOn (s .vertices) (s .edges) x y
 
 module _ (s : Sheet) (x y : ℤ) where
   -- the promises of an answer, in the order of the contract
@@ -63,9 +62,7 @@ module _ (s : Sheet) (x y : ℤ) where
   Promised r =
       (r ≡ reading s x y)
       × (((number item : ℕ) → (r ≡ Answer.Refused number item) ↔ GivenBy (readingRefusals s (shifted x) (shifted y)) number item)
-      × ((Accepted s → OnSheet s (shifted x) (shifted y) → InOneThing s (shifted x) (shifted y) r)
-      × (Accepted s → OnSheet s (shifted x) (shifted y) → OffVertices s (shifted x) (shifted y) → OffEdges s (shifted x) (shifted y)
-      → (z : ℕ) × (r ≡ Answer.Zone z) × (ZonesAgree s (shifted x) (shifted y) z × ReadSo s (shifted x) (shifted y) z))))
+      × (OneThingOnly s (shifted x) (shifted y) r × ReadingsAgree s (shifted x) (shifted y) r))
 
   -- the answer that a verdict comes to
   abbrev answerTo : Verdict → Answer
@@ -115,11 +112,10 @@ module _ (s : Sheet) (x y : ℤ) where
   promised : (r : Answer) → r ≡ reading s x y → Promised r
   promised r e = subst Promised (sym e) (refl, (refused-exactly, (in-one-thing, in-zone)))
     where
-      in-one-thing : Accepted s → OnSheet s (shifted x) (shifted y) → InOneThing s (shifted x) (shifted y) (reading s x y)
+      in-one-thing : OneThingOnly s (shifted x) (shifted y) (reading s x y)
       in-one-thing a o = rw (accepted-reads a o) (one-thing s a (shifted x) (shifted y) o)
 
-      in-zone : Accepted s → OnSheet s (shifted x) (shifted y) → OffVertices s (shifted x) (shifted y) → OffEdges s (shifted x) (shifted y)
-          → (z : ℕ) × (reading s x y ≡ Answer.Zone z) × (ZonesAgree s (shifted x) (shifted y) z × ReadSo s (shifted x) (shifted y) z)
+      in-zone : ReadingsAgree s (shifted x) (shifted y) (reading s x y)
       in-zone a o v f =
           (zoneBeneath s (shifted x) (shifted y), accepted-reads a o ∙ off-reads-zone s (shifted x) (shifted y) v f, (zones-agree s a (shifted x) (shifted y) o f, read-so s a (shifted x) (shifted y) o f))
 

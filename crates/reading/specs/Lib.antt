@@ -1,2 +1,2 @@
 -- The plain reading as its scans make it.
-pub mod Nearest
+pub mod Scans

@@ -10,7 +10,7 @@ ghost use Prim.Native.Nat.{_≤_, _/_};
 ghost use lib.ListN.{length};
 ghost use Rattle.subdivision.specs.Limits.{maxEdges};
 ghost use Rattle.subdivision.specs.Formula.{holds};
-ghost use Rattle.reading.specs.Nearest.{lowerBetween, isBeneath, takesOver, edgeBeneath, zoneFrom};
+ghost use Rattle.reading.specs.Scans.{lowerBetween, isBeneath, takesOver, edgeBeneath, zoneFrom};
 
 // Of two edges that do not conflict and overlap, g is the lower on every line between the ends of the
 // overlap: decided by side tests of vertices at those ends.

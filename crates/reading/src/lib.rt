@@ -11,8 +11,7 @@ ghost use Prim.Native.Nat.{ℕ};
 ghost use Rattle.subdivision.specs.declared.Answer.{Answer};
 ghost use Rattle.subdivision.specs.Sheet.{shifted, sheetOf};
 ghost use Rattle.subdivision.specs.Faults.{GivenBy, readingRefusals};
-ghost use Rattle.subdivision.specs.Accepted.{Accepted};
-ghost use Rattle.subdivision.specs.Placed.{OnSheet, OffVertices, OffEdges, InOneThing, ReadSo, ZonesAgree};
+ghost use Rattle.subdivision.specs.Placed.{OneThingOnly, ReadingsAgree};
 ghost use Rattle.subdivision.specs.Calls.{reading};
 
 mod beneath;
@@ -31,8 +30,8 @@ pub fn read_point(
 ) -> Answer
     ensures answer { λ r. ⌜ r ≡ reading (sheetOf west east (now (vertices .entry)) (now (edges .entry)) zones) x y ⌝ }
     ensures refused { λ r. ⌜ ((number item : ℕ) → (r ≡ Answer.Refused number item) ↔ GivenBy (readingRefusals (sheetOf west east (now (vertices .entry)) (now (edges .entry)) zones) (shifted x) (shifted y)) number item) ⌝ }
-    ensures one_thing { λ r. ⌜ (Accepted (sheetOf west east (now (vertices .entry)) (now (edges .entry)) zones) → OnSheet (sheetOf west east (now (vertices .entry)) (now (edges .entry)) zones) (shifted x) (shifted y) → InOneThing (sheetOf west east (now (vertices .entry)) (now (edges .entry)) zones) (shifted x) (shifted y) r) ⌝ }
-    ensures agreed { λ r. ⌜ (Accepted (sheetOf west east (now (vertices .entry)) (now (edges .entry)) zones) → OnSheet (sheetOf west east (now (vertices .entry)) (now (edges .entry)) zones) (shifted x) (shifted y) → OffVertices (sheetOf west east (now (vertices .entry)) (now (edges .entry)) zones) (shifted x) (shifted y) → OffEdges (sheetOf west east (now (vertices .entry)) (now (edges .entry)) zones) (shifted x) (shifted y) → (z : ℕ) × (r ≡ Answer.Zone z) × (ZonesAgree (sheetOf west east (now (vertices .entry)) (now (edges .entry)) zones) (shifted x) (shifted y) z × ReadSo (sheetOf west east (now (vertices .entry)) (now (edges .entry)) zones) (shifted x) (shifted y) z)) ⌝ }
+    ensures one_thing { λ r. ⌜ OneThingOnly (sheetOf west east (now (vertices .entry)) (now (edges .entry)) zones) (shifted x) (shifted y) r ⌝ }
+    ensures agreed { λ r. ⌜ ReadingsAgree (sheetOf west east (now (vertices .entry)) (now (edges .entry)) zones) (shifted x) (shifted y) r ⌝ }
 {
     let mut line = [0u32; MAX_ZONES];
     match sheet::rules(west, east, vertices, edges, zones, &mut line) {

@@ -14,7 +14,7 @@ ghost use Rattle.subdivision.specs.Limits.{maxVertices, maxEdges};
 ghost use Rattle.subdivision.specs.Formula.{both, isAtMost, holds};
 ghost use Rattle.subdivision.specs.Lines.{isOn};
 ghost use Rattle.subdivision.specs.Rules.{inRange};
-ghost use Rattle.reading.specs.Nearest.{vertexAt, edgeAt, placed};
+ghost use Rattle.reading.specs.Scans.{vertexAt, edgeOn, placed};
 
 // Whether a point is on the sheet: between the margins and y in range; all four numbers are shifted.
 pub fn on_sheet(west: u32, east: u32, x: u32, y: u32) -> bool
@@ -67,7 +67,7 @@ fn is_on(g: Segment, x: u32, y: u32) -> bool
 // The lowest edge that the point lies on; their number where there is none.
 fn edge_on(vertices: &[i32], edges: &[u32], x: u32, y: u32) -> u32
     requires { ⌜ length (now edges) / 4 ≤ maxEdges ⌝ }
-    ensures { λ r. ⌜ r ≡ edgeAt (now (vertices .entry)) (now (edges .entry)) x y ⌝ }
+    ensures { λ r. ⌜ r ≡ edgeOn (now (vertices .entry)) (now (edges .entry)) x y ⌝ }
 {
     let count = (edges.len() / 4) as u32;
     let mut e: u32 = 0;

@@ -1,5 +1,5 @@
--- Where a point is, as statements: the second demand, and document 01, "The plain reading of a point". No test is mentioned here, only what is so.
--- Beside each, by `refl`, that it is what the formula of the same name means.
+-- Where a point is, as statements: the second demand, and document 01, "The plain reading of a point".
+-- Beside each that has a formula, by `refl`, that it is what the formula means.
 use mathlib.Core.Path.{_≡_, refl}
 use mathlib.Core.Logic.{_⊎_, _↔_}
 use Prim.Native.Nat.{ℕ, _*_, _-_, _<_, _≤_}
@@ -7,7 +7,7 @@ use Rattle.subdivision.specs.declared.Answer.{Answer}
 use Rattle.subdivision.specs.Formula.{Means}
 use Rattle.subdivision.specs.Sheet.{Sheet, westMargin, eastMargin, vertexCount, edgeCount, zoneCount, xOf, yOf, westOf, eastOf, aboveOf, belowOf, segment}
 use Rattle.subdivision.specs.Lines.{pointPart, edgePart, isOn}
-use Rattle.subdivision.specs.Accepted.{InRange, Highest, Lowest}
+use Rattle.subdivision.specs.Accepted.{InRange, Highest, Lowest, Accepted}
 use Rattle.subdivision.specs.Reading.{onSheet, firstZone, lastZone, readingLine, isVertex, beneath, overhead, beneathWest, overheadWest, zoneBeneath, zoneOverhead, zoneBeneathWest, zoneOverheadWest}
 
 module _ (s : Sheet) where
@@ -35,9 +35,12 @@ module _ (s : Sheet) where
   abbrev pub OffEdges : ℕ → ℕ → Type 0
   OffEdges x y = (e : ℕ) → e < edgeCount s → IsOn x y e → ⊥
 
-  -- the point is in one thing only, and that is the answer: one vertex; or no vertex and one edge; or no vertex, no edge and a zone
+  -- the point is in one thing only, and that is the answer: one vertex, where every edge through it ends; or no vertex and one edge; or no vertex, no edge and a zone
   abbrev pub InOneThing : ℕ → ℕ → Answer → Type 0
-  InOneThing x y (Answer.Vertex v) = ((v < vertexCount s) × IsVertex x y v) × ((u : ℕ) → u < vertexCount s → IsVertex x y u → u ≡ v)
+  InOneThing x y (Answer.Vertex v) =
+      ((v < vertexCount s) × IsVertex x y v)
+      × (((u : ℕ) → u < vertexCount s → IsVertex x y u → u ≡ v)
+      × ((e : ℕ) → e < edgeCount s → IsOn x y e → (westOf s e ≡ v) ⊎ (eastOf s e ≡ v)))
   InOneThing x y (Answer.Edge e) = OffVertices x y × (((e < edgeCount s) × IsOn x y e) × ((f : ℕ) → f < edgeCount s → IsOn x y f → f ≡ e))
   InOneThing x y (Answer.Zone z) = OffVertices x y × (OffEdges x y × (z < zoneCount s))
   InOneThing x y (Answer.Refused number item) = ⊥
@@ -99,6 +102,15 @@ module _ (s : Sheet) where
     pub fromBeneathWest : Inland x → zoneBeneathWest s x y ≡ z
     pub fromOverheadWest : Inland x → zoneOverheadWest s x y ≡ z
 
+  -- the second demand, its first half: on an accepted sheet every point on it is in one thing only, and that is the answer
+  abbrev pub OneThingOnly : ℕ → ℕ → Answer → Type 0
+  OneThingOnly x y r = Accepted s → OnSheet x y → InOneThing x y r
+
+  -- the second demand, its second half: off every vertex and edge the answer is a zone, and however the point is read it is that zone
+  abbrev pub ReadingsAgree : ℕ → ℕ → Answer → Type 0
+  ReadingsAgree x y r =
+      Accepted s → OnSheet x y → OffVertices x y → OffEdges x y → (z : ℕ) × (r ≡ Answer.Zone z) × (ZonesAgree x y z × ReadSo x y z)
+
   pub on-sheet-says : (x y : ℕ) → Means (onSheet s x y) ≡ OnSheet x y
   on-sheet-says x y = refl
 
@@ -108,8 +120,14 @@ module _ (s : Sheet) where
   pub is-on-says : (x y e : ℕ) → Means (isOn (segment s e) x y) ≡ IsOn x y e
   is-on-says x y e = refl
 
-  pub beneath-says : (x y e : ℕ) → (Means (beneath s x y e) × Means (overhead s x y e)) ≡ ((Covers x e × Under x y e) × (Covers x e × Over x y e))
+  pub beneath-says : (x y e : ℕ) → Means (beneath s x y e) ≡ (Covers x e × Under x y e)
   beneath-says x y e = refl
 
-  pub beneath-west-says : (x y e : ℕ) → (Means (beneathWest s x y e) × Means (overheadWest s x y e)) ≡ ((CoversWest x e × Under x y e) × (CoversWest x e × Over x y e))
+  pub overhead-says : (x y e : ℕ) → Means (overhead s x y e) ≡ (Covers x e × Over x y e)
+  overhead-says x y e = refl
+
+  pub beneath-west-says : (x y e : ℕ) → Means (beneathWest s x y e) ≡ (CoversWest x e × Under x y e)
   beneath-west-says x y e = refl
+
+  pub overhead-west-says : (x y e : ℕ) → Means (overheadWest s x y e) ≡ (CoversWest x e × Over x y e)
+  overhead-west-says x y e = refl

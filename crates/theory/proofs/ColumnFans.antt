@@ -10,9 +10,10 @@ use Rattle.subdivision.specs.Accepted.{HasWestern, HasEastern, Highest, Lowest,
 use Rattle.theory.proofs.Beside.{lineBeside}
 use Rattle.theory.proofs.FanOrder.{endOf, OfFan, LowerBeside}
 use Rattle.theory.proofs.Columns.{NextInColumn, TopThere, BottomThere}
-use Rattle.theory.proofs.Scale.{scaled, level, Reaches, Crosses, IsEnd, NoCrossing}
+use Rattle.theory.proofs.Crossings.{Reaches, Crosses, IsEnd, NoCrossing}
+use Rattle.theory.proofs.Scale.{scaled, level}
 use Rattle.theory.proofs.Scaling.{one-scale}
-use Rattle.theory.proofs.Drawing.{drawingOf}
+use Rattle.theory.proofs.Drawn.{drawingOf}
 use Rattle.theory.proofs.Transects.{passing, OnTransect}
 
 -- the abscissa of column x at which the vertices of its eastern, or of its western, fans are

@@ -6,7 +6,7 @@ use native.Mathlib.Decide.{decLe}
 use native.Mathlib.Nat.{eq-or-lt-of-le, le-of-suc-le-suc, lt-of-not-le}
 use native.Mathlib.Omega.{arith, by-contra}
 use Rattle.subdivision.specs.Formula.{Formula, isLess, isAtMost, both}
-use Rattle.theory.proofs.Columns.{Drawing, InColumn, NextInColumn, TopThere, HighestUnder, LowestOver, TopOf, BottomOf, Kept}
+use Rattle.theory.proofs.Columns.{Drawing, InColumn, Rises, NextInColumn, TopThere, HighestUnder, LowestOver, TopOf, BottomOf, Kept}
 use Rattle.theory.proofs.Flip.{flipped, flip-kept, flip-bottom, flip-lowest, unflip-across}
 use Rattle.theory.proofs.Tops.{has-highest, has-lowest}
 
@@ -16,7 +16,7 @@ from-column P c p next zero l = let same : c ≡ 0 = omega arith in rw same at p
 from-column P c p next (suc b) l =
     ⊎-elim (λ (same : c ≡ suc b). rw same at p) (λ m. let n = le-of-suc-le-suc m in next b n (from-column P c p next b n)) (eq-or-lt-of-le l)
 
-module _ (d : Drawing) (k : Kept d) where
+module _ (d : Drawing) where
   -- edge e crosses column x, as a formula
   abbrev inColumn : ℕ → ℕ → Formula
   inColumn x e = both (isLess e (d .count)) (both (isAtMost (d .from e) x) (isLess x (d .to e)))
@@ -33,9 +33,34 @@ module _ (d : Drawing) (k : Kept d) where
 
   pub lowest-over : (c : ℕ) (h : ℕ → ℕ) (level e : ℕ) → InColumn d c e → level < h e → (f : ℕ) × LowestOver d c h level f
   lowest-over c h level e i l =
-      let t = has-lowest (λ g. both (inColumn c g) (isLess level (h g))) (d .half c) (d .cap) (d .count) (λ g b m. k .capped c g (m .0) .1) e (i .0) (i, l) in
+      let t = has-lowest (λ g. both (inColumn c g) (isLess level (h g))) (d .half c) (d .count) e (i .0) (i, l) in
       (t .0, (t .2 .0, λ g j m. t .2 .1 g (j .0) (j, m)))
 
+  highest-top-there : (c : ℕ) (h : ℕ → ℕ) (level e : ℕ) → HighestUnder d c h level e → TopThere d c h e
+  highest-top-there c h level e t = (t .0 .0, λ g i q. t .1 g i (omega (arith, q, t .0 .1)))
+
+  -- heights h that rise, weakly, with those on the half line of column c
+  module _ (c : ℕ) (h : ℕ → ℕ) (rises : Rises d c h) where
+    pub lower-on-half : (e f : ℕ) → InColumn d c e → InColumn d c f → h e < h f → d .half c e < d .half c f
+    lower-on-half e f i j l = lt-of-not-le (λ m. omega (arith, rises f e j i m))
+
+    -- the highest edge under one level and the lowest over another are neighbours, where each edge is under the one or over the other
+    next-between : (high low e f : ℕ) → HighestUnder d c h high e → LowestOver d c h low f → h e < h f
+        → ((g : ℕ) → InColumn d c g → high ≤ h g → h g ≤ low → ⊥) → NextInColumn d c e f
+    next-between high low e f a b l none =
+        ((a .0 .0, b .0 .0), (lower-on-half e f (a .0 .0) (b .0 .0) l, λ g i m n. none g i (by-contra high (h g) (λ u. omega (arith, a .1 g i u))) (by-contra (h g) low (λ o. omega (arith, b .1 g i o)))))
+
+  -- where no edge of a column passes a level, the highest edge under it and the lowest over it are neighbours
+  pub next-across : (c : ℕ) (h : ℕ → ℕ) (level e f : ℕ)
+      → Rises d c h
+      → HighestUnder d c h level e → LowestOver d c h level f → ((g : ℕ) → InColumn d c g → h g ≡ level → ⊥) → NextInColumn d c e f
+  next-across c h level e f rises a b none =
+      next-between c h rises level level e f a b (omega (arith, a .0 .1, b .0 .1)) (λ g i l m. none g i (omega arith))
+
+  top-highest : (c : ℕ) (h : ℕ → ℕ) (e : ℕ) → h e ≤ d .cap → TopOf d c e → HighestUnder d c h (suc (d .cap)) e
+  top-highest c h e b t = ((t .0, omega arith), λ g i l. t .1 g i)
+
+module _ (d : Drawing) (k : Kept d) where
   west-of-column : (c e : ℕ) → InColumn d c e → d .west ≤ c
   west-of-column c e i = omega (arith, i .1 .0, k .inside e (i .0) .0 .0)
 
@@ -59,14 +84,11 @@ module _ (d : Drawing) (k : Kept d) where
           let g = k .back x f (west-of-column x e (a .0 .0)) (b .0 .0) in
           omega (arith, g .2, k .far x (g .0) e (g .1) (a .0 .0) (a .1 (g .0) (g .1) (omega (arith, g .2, b .0 .1))))
 
-  highest-top-there : (c : ℕ) (h : ℕ → ℕ) (level e : ℕ) → HighestUnder d c h level e → TopThere d c h e
-  highest-top-there c h level e t = (t .0 .0, λ g i q. t .1 g i (omega (arith, q, t .0 .1)))
-
   -- the highest edges under a level on the two sides of an abscissa have one zone above them
   pub cut-above : (x level e f : ℕ) → HighestUnder d x (d .whole (suc x)) level e → HighestUnder d (suc x) (d .whole (suc x)) level f
       → d .above e ≡ d .above f
   cut-above x level e f a b =
-      k .tops x e f (highest-top-there x (d .whole (suc x)) level e a) (highest-top-there (suc x) (d .whole (suc x)) level f b) (meet-under x level e f a b)
+      k .tops x e f (highest-top-there d x (d .whole (suc x)) level e a) (highest-top-there d (suc x) (d .whole (suc x)) level f b) (meet-under x level e f a b)
 
 module _ (d : Drawing) (k : Kept d) where
   flip-before : (x level e : ℕ) → LowestOver d x (d .whole (suc x)) level e
@@ -84,28 +106,10 @@ module _ (d : Drawing) (k : Kept d) where
       unflip-across d k x e f (a .0 .0) (b .0 .0) (meet-under (flipped d) (flip-kept d k) x (d .cap - level) e f (flip-before x level e a) (flip-behind x level f b))
 
   -- the lowest edges over a level on the two sides of an abscissa have one zone below them
-  pub cut-below : (x level e f : ℕ) → LowestOver d x (d .whole (suc x)) level e → LowestOver d (suc x) (d .whole (suc x)) level f
+  cut-below : (x level e f : ℕ) → LowestOver d x (d .whole (suc x)) level e → LowestOver d (suc x) (d .whole (suc x)) level f
       → d .below e ≡ d .below f
   cut-below x level e f a b =
       cut-above (flipped d) (flip-kept d k) x (d .cap - level) e f (flip-before x level e a) (flip-behind x level f b)
-
-  -- heights h that rise, weakly, with those on the half line of column c
-  module _ (c : ℕ) (h : ℕ → ℕ) (rises : (e f : ℕ) → InColumn d c e → InColumn d c f → d .half c e ≤ d .half c f → h e ≤ h f) where
-    lower-on-half : (e f : ℕ) → InColumn d c e → InColumn d c f → h e < h f → d .half c e < d .half c f
-    lower-on-half e f i j l = lt-of-not-le (λ m. omega (arith, rises f e j i m))
-
-    -- the highest edge under one level and the lowest over another are neighbours, where each edge is under the one or over the other
-    next-between : (high low e f : ℕ) → HighestUnder d c h high e → LowestOver d c h low f → h e < h f
-        → ((g : ℕ) → InColumn d c g → high ≤ h g → h g ≤ low → ⊥) → NextInColumn d c e f
-    next-between high low e f a b l none =
-        ((a .0 .0, b .0 .0), (lower-on-half e f (a .0 .0) (b .0 .0) l, λ g i m n. none g i (by-contra high (h g) (λ u. omega (arith, a .1 g i u))) (by-contra (h g) low (λ o. omega (arith, b .1 g i o)))))
-
-  -- where no edge of a column passes a level, the highest edge under it and the lowest over it are neighbours
-  pub next-across : (c : ℕ) (h : ℕ → ℕ) (level e f : ℕ)
-      → ((e f : ℕ) → InColumn d c e → InColumn d c f → d .half c e ≤ d .half c f → h e ≤ h f)
-      → HighestUnder d c h level e → LowestOver d c h level f → ((g : ℕ) → InColumn d c g → h g ≡ level → ⊥) → NextInColumn d c e f
-  next-across c h level e f rises a b none =
-      next-between c h rises level level e f a b (omega (arith, a .0 .1, b .0 .1)) (λ g i l m. none g i (omega arith))
 
   -- ---- up a column
 
@@ -117,17 +121,17 @@ module _ (d : Drawing) (k : Kept d) where
   -- of two neighbours that are apart at the abscissa of their column, the lower is the highest under the upper
   lower-highest : (x e f : ℕ) → NextInColumn d x e f → d .whole x e < d .whole x f → HighestUnder d x (d .whole x) (d .whole x f) e
   lower-highest x e f n l =
-      ((n .0 .0, l), λ g i m. by-contra (d .half x g) (d .half x e) (λ o. n .1 .1 g i o (lower-on-half x (d .whole x) (k .near x) g f i (n .0 .1) m)))
+      ((n .0 .0, l), λ g i m. by-contra (d .half x g) (d .half x e) (λ o. n .1 .1 g i o (lower-on-half d x (d .whole x) (k .near x) g f i (n .0 .1) m)))
 
   -- and the upper is the lowest over the lower
   upper-lowest : (x e f : ℕ) → NextInColumn d x e f → d .whole x e < d .whole x f → LowestOver d x (d .whole x) (d .whole x e) f
   upper-lowest x e f n l =
-      ((n .0 .1, l), λ g i m. by-contra (d .half x f) (d .half x g) (n .1 .1 g i (lower-on-half x (d .whole x) (k .near x) e g (n .0 .0) i m)))
+      ((n .0 .1, l), λ g i m. by-contra (d .half x f) (d .half x g) (n .1 .1 g i (lower-on-half d x (d .whole x) (k .near x) e g (n .0 .0) i m)))
 
   -- neighbours in a column that are apart at its abscissa stand over neighbours of the column before, and have their names
   names-carried : (y e f : ℕ) → d .west ≤ y → ((e f : ℕ) → NextInColumn d y e f → d .above e ≡ d .below f)
       → NextInColumn d (suc y) e f → d .whole (suc y) e < d .whole (suc y) f → d .above e ≡ d .below f
-  names-carried y e f w agree n l = go (highest-under d k y h (h f) (under .0) (under .1) (omega (arith, under .2))) (lowest-over d k y h (h e) (over .0) (over .1) (omega (arith, over .2)))
+  names-carried y e f w agree n l = go (highest-under d y h (h f) (under .0) (under .1) (omega (arith, under .2))) (lowest-over d y h (h e) (over .0) (over .1) (omega (arith, over .2)))
     where
       h : ℕ → ℕ
       h = d .whole (suc y)
@@ -149,7 +153,7 @@ module _ (d : Drawing) (k : Kept d) where
 
           next : NextInColumn d y (p .0) (q .0)
           next =
-              next-between y h (k .far y) (h f) (h e) (p .0) (q .0) (p .1) (q .1)
+              next-between d y h (k .far y) (h f) (h e) (p .0) (q .0) (p .1) (q .1)
               (omega (arith, l, meet-under d k y (h f) (p .0) e (p .1) lower, meet-over y (h e) (q .0) f (q .1) upper))
               (λ g i a b. omega (arith, l))
 
@@ -180,13 +184,10 @@ module _ (d : Drawing) (k : Kept d) where
       go (yes m) = from-column (λ b. b < d .east → Filled b) x (λ n. (e, i)) eastward c m l
       go (no m) = from-column (λ b. Filled b → Filled c) c (λ f. f) westward x (omega arith) (e, i)
 
-  top-highest : (c : ℕ) (h : ℕ → ℕ) (e : ℕ) → h e ≤ d .cap → TopOf d c e → HighestUnder d c h (suc (d .cap)) e
-  top-highest c h e b t = ((t .0, omega arith), λ g i l. t .1 g i)
-
   -- the zone above the top edge is the same in a column and in the next
   top-name-next : (c e f : ℕ) → TopOf d c e → TopOf d (suc c) f → d .above e ≡ d .above f
   top-name-next c e f t u =
-      cut-above d k c (suc (d .cap)) e f (top-highest c (d .whole (suc c)) e (k .capped c e (t .0) .0 .1) t) (top-highest (suc c) (d .whole (suc c)) f (k .capped (suc c) f (u .0) .0 .0) u)
+      cut-above d k c (suc (d .cap)) e f (top-highest d c (d .whole (suc c)) e (k .capped c e (t .0) .0 .1) t) (top-highest d (suc c) (d .whole (suc c)) f (k .capped (suc c) f (u .0) .0 .0) u)
 
   top-name-east : (c e b f : ℕ) → c ≤ b → TopOf d c e → TopOf d b f → d .above e ≡ d .above f
   top-name-east c e b f l t u = from-column (λ b. (f : ℕ) → TopOf d b f → d .above e ≡ d .above f) c same next b l f u
@@ -197,7 +198,7 @@ module _ (d : Drawing) (k : Kept d) where
       next : (b : ℕ) → c ≤ b → ((f : ℕ) → TopOf d b f → d .above e ≡ d .above f) → (f : ℕ) → TopOf d (suc b) f → d .above e ≡ d .above f
       next b m one f u =
           let g = k .back b f (omega (arith, west-of-column d k c e (t .0))) (u .0) in
-          let p = has-top d k b (g .0) (g .1) in
+          let p = has-top d b (g .0) (g .1) in
           one (p .0) (p .1) ∙ top-name-next b (p .0) f (p .1) u
 
   -- the zone above the top edge is the same in all columns

@@ -3,7 +3,7 @@ use mathlib.Core.Path.{_≡_, sym, _∙_}
 use mathlib.Core.Logic.{_⊎_, inl, inr}
 use Prim.Native.Nat.{ℕ, suc, _<_, _≤_}
 use native.Mathlib.Omega.{arith}
-use Rattle.theory.proofs.Columns.{Drawing, InColumn, HighestUnder, LowestOver, TopOf, BottomOf, Kept}
+use Rattle.theory.proofs.Columns.{Drawing, InColumn, Rises, HighestUnder, LowestOver, TopOf, BottomOf, Kept}
 use Rattle.theory.proofs.ColumnNames.{cut-above, next-across, column-names-agree, column-filled}
 
 module _ (d : Drawing) where
@@ -53,7 +53,7 @@ module _ (d : Drawing) (k : Kept d) where
     where
       -- where no edge of a column has the level, it reads from beneath as from overhead
       pub under-is-over : (c : ℕ) (h : ℕ → ℕ) (level z w : ℕ)
-          → ((e f : ℕ) → InColumn d c e → InColumn d c f → d .half c e ≤ d .half c f → h e ≤ h f)
+          → Rises d c h
           → d .west ≤ c → c < d .east
           → ((g : ℕ) → InColumn d c g → h g ≡ level → ⊥)
           → ReadUnder d c h level first z → ReadOver d c h level last w → z ≡ w
@@ -67,7 +67,7 @@ module _ (d : Drawing) (k : Kept d) where
 
           go : ReadUnder d c h level first z → ReadOver d c h level last w → z ≡ w
           go (inl e) (inl f) =
-              e .2 ∙ (column-names-agree d k c (e .0) (f .0) (next-across d k c h level (e .0) (f .0) order (e .1) (f .1) off) ∙ sym (f .2))
+              e .2 ∙ (column-names-agree d k c (e .0) (f .0) (next-across d c h level (e .0) (f .0) order (e .1) (f .1) off) ∙ sym (f .2))
           go (inl e) (inr n) =
               e .2 ∙ (tops c (e .0) (e .1 .0 .0, λ g i. e .1 .1 g i (under g i (n .0 g i))) ∙ sym (n .1))
           go (inr n) (inl f) =

@@ -21,6 +21,10 @@ module _ (d : Drawing) where
   abbrev pub InColumn : ℕ → ℕ → Type 0
   InColumn x e = (e < d .count) × ((d .from e ≤ x) × (x < d .to e))
 
+  -- heights h rise, weakly, with those on the half line of column c
+  abbrev pub Rises : ℕ → (ℕ → ℕ) → Type 0
+  Rises c h = (e f : ℕ) → InColumn c e → InColumn c f → d .half c e ≤ d .half c f → h e ≤ h f
+
   -- edge f is the next one up from edge e in column x
   abbrev pub NextInColumn : ℕ → ℕ → ℕ → Type 0
   NextInColumn x e f =
@@ -57,8 +61,8 @@ module _ (d : Drawing) where
     pub inside : (e : ℕ) → e < d .count → ((d .west ≤ d .from e) × (d .from e < d .to e)) × (d .to e ≤ d .east)
     pub capped : (x e : ℕ) → InColumn x e → ((d .whole x e ≤ d .cap) × (d .whole (suc x) e ≤ d .cap)) × (d .half x e ≤ d .cap)
     pub apart : (x e f : ℕ) → InColumn x e → InColumn x f → d .half x e ≡ d .half x f → e ≡ f
-    pub near : (x e f : ℕ) → InColumn x e → InColumn x f → d .half x e ≤ d .half x f → d .whole x e ≤ d .whole x f
-    pub far : (x e f : ℕ) → InColumn x e → InColumn x f → d .half x e ≤ d .half x f → d .whole (suc x) e ≤ d .whole (suc x) f
+    pub near : (x : ℕ) → Rises x (d .whole x)
+    pub far : (x : ℕ) → Rises x (d .whole (suc x))
     -- rule 3: over an abscissa strictly between the margins each edge is carried on, to the east and to the west
     pub onward : (x e : ℕ) → suc x < d .east → InColumn x e → (f : ℕ) × InColumn (suc x) f × (d .whole (suc x) f ≡ d .whole (suc x) e)
     pub back : (x e : ℕ) → d .west ≤ x → InColumn (suc x) e → (f : ℕ) × InColumn x f × (d .whole (suc x) f ≡ d .whole (suc x) e)

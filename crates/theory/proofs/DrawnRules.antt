@@ -6,16 +6,17 @@ use Prim.Native.Nat.{ℕ, suc, _+_, _*_, _<_, _≤_}
 use native.Mathlib.Decide.{decLe, ℕ-discrete}
 use native.Mathlib.Nat.{lt-irrefl}
 use native.Mathlib.Numerals.{add-one}
-use native.Mathlib.Omega.{arith}
+use native.Mathlib.Omega.{arith, by-contra}
 use Rattle.subdivision.specs.Limits.{highestCoordinate}
 use Rattle.subdivision.specs.Sheet.{Sheet, westMargin, eastMargin, vertexCount, edgeCount, xOf, yOf, westOf, eastOf, aboveOf, belowOf}
 use Rattle.subdivision.specs.Accepted.{HasEastern, NextOnMargin}
 use Rattle.theory.proofs.FanOrder.{endOf}
 use Rattle.theory.proofs.Columns.{Drawing, InColumn, NextInColumn, TopThere, BottomThere, Kept}
-use Rattle.theory.proofs.Scale.{scaled, level, Crosses, NoCrossing}
+use Rattle.theory.proofs.Crossings.{Crosses, NoCrossing}
+use Rattle.theory.proofs.Scale.{scaled, level}
 use Rattle.theory.proofs.Scaling.{one-scale}
 use Rattle.theory.proofs.NoCrossing.{no-crossing}
-use Rattle.theory.proofs.Drawing.{Drawn, drawingOf}
+use Rattle.theory.proofs.Drawn.{Drawn, drawingOf}
 use Rattle.theory.proofs.ColumnFans.{fanSide, passing-crosses, crossing-passes, OfOneVertex, columns-meet, has-fan, end-vertex, fan-crosses, fan-level, fans-meet, next-of-fan, top-of-fan, bottom-of-fan}
 
 -- an edge of a column is at most as high as the lower of two neighbours, or at least as high as the upper
@@ -100,10 +101,7 @@ module _ (s : Sheet) (k : Drawn s) where
   margin-level e c = fan-level s (k .two) true (westMargin s) (westOf s e) e (starts-at-margin e c) (c .0, refl)
 
   level-at-most : (y z : ℕ) → level s y ≤ level s z → y ≤ z
-  level-at-most y z l = omega (arith, not-above)
-    where
-      not-above : ¬ (z < y)
-      not-above m = omega (arith, one-scale s (k .two) .level-less z y .0 m)
+  level-at-most y z l = by-contra y z (λ m. omega (arith, one-scale s (k .two) .level-less z y .0 m))
 
   -- two neighbours of the first column that start apart
   module _ (e f : ℕ) (n : NextInColumn (drawingOf s) (westMargin s) e f) (h : marginHeight e < marginHeight f) where
@@ -148,6 +146,7 @@ module _ (s : Sheet) (k : Drawn s) where
           bottom-of-fan s (k .two) true (westMargin s) (westOf s f) (starts-at-margin f (n .0 .1)) f (n .0 .1 .0, refl) upper-is-bottom,
         )
 
+  -- rules 1 to 5, as edges in columns
   pub drawn-kept : Kept (drawingOf s)
   drawn-kept =
       record {

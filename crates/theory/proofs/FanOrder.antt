@@ -7,7 +7,7 @@ use Rattle.subdivision.specs.Lines.{width}
 use Rattle.subdivision.specs.Sheet.{Sheet, edgeCount, xOf, yOf, westOf, eastOf, segment}
 use Rattle.subdivision.specs.Accepted.{Lower, Level, Rule2, Rule4}
 use Rattle.theory.proofs.Beside.{lineBeside, nearX, nearY, OneEnd, level-conflicts}
-use Rattle.theory.proofs.LineOrder.{lower-irreflexive, lower-trans, at-most-trans}
+use Rattle.theory.proofs.LineOrder.{lower-irreflexive, level-unless-lower, lower-trans, at-most-trans}
 
 -- a strict order of the numbers in a set
 pub record StrictOrder (Among : ℕ → Type 0) (Under : ℕ → ℕ → Type 0) : Type 0 where
@@ -84,8 +84,5 @@ module _ (s : Sheet) where
           irreflexive = λ e. lower-irreflexive (lineBeside eastern (xOf s v) 1) (segment s e);
           transitive = λ e f g a b c. lower-trans (lineBeside eastern (xOf s v) 1) (segment s e) (segment s f) (segment s g) (edge-wide rule2 f (b .0)) (edge-wide rule2 g (c .0));
           at-most = λ e f g a b c. at-most-trans (lineBeside eastern (xOf s v) 1) (segment s e) (segment s f) (segment s g) (edge-wide rule2 f (b .0));
-          total = λ e f a b l m. fan-unlevel eastern v e f a b (same _ _ l m);
+          total = λ e f a b l m. fan-unlevel eastern v e f a b (level-unless-lower (lineBeside eastern (xOf s v) 1) (segment s e) (segment s f) l m);
         }
-      where
-        same : (p q : ℕ) → ¬ (p < q) → ¬ (q < p) → p ≡ q
-        same p q l m = omega arith

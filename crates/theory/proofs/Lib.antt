@@ -8,8 +8,9 @@ pub mod ColumnOrder
 pub mod ColumnReadings
 pub mod Columns
 pub mod Counting
+pub mod Crossings
 pub mod Decide
-pub mod Drawing
+pub mod Drawn
 pub mod DrawnRules
 pub mod Dyadic
 pub mod FanOrder
@@ -27,9 +28,11 @@ pub mod LowestOfTwo
 pub mod Meetings
 pub mod Merge
 pub mod NoCrossing
+pub mod NodeReadings
 pub mod Nodes
 pub mod OneThing
 pub mod Order
+pub mod Overlaps
 pub mod Places
 pub mod Position
 pub mod ReadFrom

@@ -1,10 +1,10 @@
 -- The order of edges on one line: for edges of positive width "lower on the doubled line c" is a strict order, and "at most as high" is transitive.
 use Prim.Native.Nat.{ℕ, _*_, _<_, _≤_}
-use native.Mathlib.Nat.{mul-le-mul-right, mul-lt-mul-of-pos-right, lt-of-mul-lt-mul-right, le-of-mul-le-mul-right}
-use native.Mathlib.Omega.{arith}
+use native.Mathlib.Nat.{le-antisymm, mul-le-mul-right, mul-lt-mul-of-pos-right, lt-of-mul-lt-mul-right, le-of-mul-le-mul-right}
+use native.Mathlib.Omega.{arith, by-contra}
 use Rattle.subdivision.specs.declared.Segment.{Segment}
 use Rattle.subdivision.specs.Lines.{width, height}
-use Rattle.subdivision.specs.Accepted.{Lower}
+use Rattle.subdivision.specs.Accepted.{Lower, Level}
 
 -- three fractions: what is below a third by way of a second is below it; a, b, d over p, q, r
 below-at-most : (a p b q d r : ℕ) → 0 < q → 0 < r → a * q < b * p → b * r ≤ d * q → a * r < d * p
@@ -22,6 +22,10 @@ at-most-at-most a p b q d r hq l m =
     le-of-mul-le-mul-right w hq
 
 module _ (c : ℕ) where
+  -- of two edges neither of which is lower, both are equally high
+  pub level-unless-lower : (g h : Segment) → (Lower c g h → ⊥) → (Lower c h g → ⊥) → Level c g h
+  level-unless-lower g h l m = le-antisymm (by-contra _ _ m) (by-contra _ _ l)
+
   pub lower-irreflexive : (g : Segment) → Lower c g g → ⊥
   lower-irreflexive g l = omega arith
 

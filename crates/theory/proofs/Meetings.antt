@@ -1,25 +1,24 @@
 -- The edges of a column that meet at one of its abscissas: they have a top and a bottom one, and between the top of one meeting and the bottom of the next there is no edge.
 use mathlib.Core.Path.{_≡_}
-use Prim.Native.Nat.{ℕ, suc, _<_, _≤_}
+use Prim.Native.Nat.{ℕ, suc, _<_}
 use native.Mathlib.Nat.{lt-suc-self, lt-of-not-le}
 use native.Mathlib.Omega.{arith, by-contra}
-use Rattle.theory.proofs.Columns.{Drawing, InColumn, NextInColumn, TopThere, BottomThere, TopOf, BottomOf, Kept}
-use Rattle.theory.proofs.ColumnNames.{highest-under, lowest-over}
+use Rattle.theory.proofs.Columns.{Drawing, InColumn, Rises, NextInColumn, TopThere, BottomThere, TopOf, BottomOf}
+use Rattle.theory.proofs.ColumnNames.{highest-under, lowest-over, lower-on-half}
 
 -- heights h that rise, weakly, with those on the half line of column c
-module _ (d : Drawing) (c : ℕ) (h : ℕ → ℕ) (rises : (e f : ℕ) → InColumn d c e → InColumn d c f → d .half c e ≤ d .half c f → h e ≤ h f) where
-  module _ (k : Kept d) where
-    -- of the edges that meet where edge f is, one is the top
-    pub has-top-there : (f : ℕ) → InColumn d c f → (e : ℕ) × TopThere d c h e × (h e ≡ h f)
-    has-top-there f i =
-        let t = highest-under d k c h (suc (h f)) f i (lt-suc-self (h f)) in
-        (t .0, (t .1 .0 .0, λ g j q. t .1 .1 g j (omega (arith, q, t .1 .0 .1))), omega (arith, t .1 .0 .1, rises f (t .0) i (t .1 .0 .0) (t .1 .1 f i (lt-suc-self (h f)))))
+module _ (d : Drawing) (c : ℕ) (h : ℕ → ℕ) (rises : Rises d c h) where
+  -- of the edges that meet where edge f is, one is the top
+  pub has-top-there : (f : ℕ) → InColumn d c f → (e : ℕ) × TopThere d c h e × (h e ≡ h f)
+  has-top-there f i =
+      let t = highest-under d c h (suc (h f)) f i (lt-suc-self (h f)) in
+      (t .0, (t .1 .0 .0, λ g j q. t .1 .1 g j (omega (arith, q, t .1 .0 .1))), omega (arith, t .1 .0 .1, rises f (t .0) i (t .1 .0 .0) (t .1 .1 f i (lt-suc-self (h f)))))
 
-    -- and one is the bottom
-    pub has-bottom-there : (f : ℕ) → InColumn d c f → (e : ℕ) × BottomThere d c h e × (h e ≡ h f)
-    has-bottom-there f i =
-        let t = lowest-over d k c (λ g. suc (h g)) (h f) f i (lt-suc-self (h f)) in
-        (t .0, (t .1 .0 .0, λ g j q. t .1 .1 g j (omega (arith, q, t .1 .0 .1))), omega (arith, t .1 .0 .1, rises (t .0) f (t .1 .0 .0) i (t .1 .1 f i (lt-suc-self (h f)))))
+  -- and one is the bottom
+  pub has-bottom-there : (f : ℕ) → InColumn d c f → (e : ℕ) × BottomThere d c h e × (h e ≡ h f)
+  has-bottom-there f i =
+      let t = lowest-over d c (λ g. suc (h g)) (h f) f i (lt-suc-self (h f)) in
+      (t .0, (t .1 .0 .0, λ g j q. t .1 .1 g j (omega (arith, q, t .1 .0 .1))), omega (arith, t .1 .0 .1, rises (t .0) f (t .1 .0 .0) i (t .1 .1 f i (lt-suc-self (h f)))))
 
   -- an edge over the top of a meeting is over the meeting
   over-top : (e g : ℕ) → TopThere d c h e → InColumn d c g → d .half c e < d .half c g → h e < h g
@@ -33,7 +32,7 @@ module _ (d : Drawing) (c : ℕ) (h : ℕ → ℕ) (rises : (e f : ℕ) → InCo
   pub next-meeting : (e f : ℕ) → TopThere d c h e → BottomThere d c h f → h e < h f
       → ((g : ℕ) → InColumn d c g → h e < h g → h g < h f → ⊥) → NextInColumn d c e f
   next-meeting e f t b l none =
-      ((t .0, b .0), (lt-of-not-le (λ m. omega (arith, rises f e (b .0) (t .0) m)), λ g i m n. none g i (over-top e g t i m) (under-bottom f g b i n)))
+      ((t .0, b .0), (lower-on-half d c h rises e f (t .0) (b .0) l, λ g i m n. none g i (over-top e g t i m) (under-bottom f g b i n)))
 
   -- the top of a meeting with none over it is the top of the column
   pub top-meeting : (e : ℕ) → TopThere d c h e → ((g : ℕ) → InColumn d c g → h e < h g → ⊥) → TopOf d c e

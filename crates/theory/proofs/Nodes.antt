@@ -12,12 +12,13 @@ use Rattle.subdivision.specs.Lines.{width, edgePart}
 use Rattle.subdivision.specs.Accepted.{Lower}
 use Rattle.theory.proofs.ColumnFans.{fanSide, passing-crosses, crossing-passes, OfOneVertex, columns-meet, has-fan, end-vertex, fan-crosses, fan-level}
 use Rattle.theory.proofs.Columns.{Kept}
-use Rattle.theory.proofs.Drawing.{Drawn, drawingOf}
+use Rattle.theory.proofs.Drawn.{Drawn, drawingOf}
 use Rattle.theory.proofs.DrawnRules.{drawn-kept}
 use Rattle.theory.proofs.FanOrder.{endOf, OfFan}
 use Rattle.theory.proofs.Heights.{height-at}
 use Rattle.theory.proofs.NoCrossing.{no-crossing}
-use Rattle.theory.proofs.Scale.{scaled, level, OneScale, Crosses, NoCrossing}
+use Rattle.theory.proofs.Crossings.{Crosses, NoCrossing}
+use Rattle.theory.proofs.Scale.{scaled, level, OneScale}
 use Rattle.theory.proofs.Scaling.{one-scale}
 use Rattle.theory.proofs.Transects.{Node, corner, passing, OnTransect, LowerNode, LevelNode}
 
@@ -30,7 +31,7 @@ lower-at g h x = rw (height-at g x, height-at h x) (doubled (edgePart g x) (widt
 
 module _ (s : Sheet) where
   -- the height of a node at the abscissa x, to the common scale
-  abbrev nodeHeight : ℕ → Node → ℕ
+  abbrev pub nodeHeight : ℕ → Node → ℕ
   nodeHeight x (corner v) = level s (yOf s v)
   nodeHeight x (passing e) = scaled s (2 * x) e
 
@@ -54,7 +55,7 @@ module _ (s : Sheet) (a : Drawn s) where
   kept = drawn-kept s a
 
   -- of two nodes that is lower whose height to the common scale is less
-  lower-node-less : (x : ℕ) (p q : Node) → OnTransect s x p → OnTransect s x q → LowerNode s x p q ↔ (nodeHeight s x p < nodeHeight s x q)
+  pub lower-node-less : (x : ℕ) (p q : Node) → OnTransect s x p → OnTransect s x q → LowerNode s x p q ↔ (nodeHeight s x p < nodeHeight s x q)
   lower-node-less x (corner u) (corner v) o n = rw (mul-one (yOf s u), mul-one (yOf s v)) (scale .level-less (yOf s u) (yOf s v))
   lower-node-less x (corner u) (passing f) o n = rw (mul-one (edgePart (segment s f) x)) (scale .over-level f x (yOf s u) (n .0))
   lower-node-less x (passing e) (corner v) o n = rw (mul-one (edgePart (segment s e) x)) (scale .under-level e x (yOf s v) (o .0))

@@ -1,21 +1,29 @@
 -- A point on an accepted sheet is in one thing only, one vertex or one edge or a zone, and the plain reading is that thing.
 use mathlib.Core.Path.{_≡_, refl, sym, _∙_}
-use mathlib.Core.Logic.{inl, inr, ⊎-elim}
+use mathlib.Core.Bool.{true, false, false≢true}
+use mathlib.Core.Logic.{_⊎_, inl, inr, ⊎-elim}
 use Prim.Native.Nat.{ℕ, _*_, _<_}
+use native.Mathlib.Nat.{eq-or-lt-of-le, mul-one}
 use Rattle.subdivision.specs.declared.Answer.{Answer}
 use Rattle.subdivision.specs.declared.Answer.the-variants.{Vertex, Edge, Zone}
-use Rattle.subdivision.specs.Sheet.{Sheet, vertexCount, edgeCount, zoneCount, xOf, yOf, segment}
-use Rattle.subdivision.specs.Lines.{isOn}
+use Rattle.subdivision.specs.Sheet.{Sheet, vertexCount, edgeCount, zoneCount, xOf, yOf, westOf, eastOf, segment}
+use Rattle.subdivision.specs.Lines.{edgePart, isOn}
 use Rattle.subdivision.specs.Accepted.{Accepted}
 use Rattle.subdivision.specs.Reading.{isVertex, zoneBeneath, plainReading}
 use Rattle.subdivision.specs.Placed.{OnSheet, IsVertex, IsOn, OffVertices, OffEdges, InOneThing, ReadBeneath}
 use Rattle.theory.proofs.Chains.{accepted-above}
-use Rattle.theory.proofs.Scale.{scaled, level, OneScale, IsEnd}
+use Rattle.theory.proofs.ColumnFans.{fan-level}
+use Rattle.theory.proofs.Crossings.{IsEnd}
+use Rattle.theory.proofs.Scale.{scaled, level, OneScale}
 use Rattle.theory.proofs.Scaling.{one-scale}
-use Rattle.theory.proofs.NoCrossing.{same-point, no-crossing}
+use Rattle.theory.proofs.NoCrossing.{no-crossing}
+use Rattle.theory.proofs.Repeats.{same-point}
+use Rattle.theory.proofs.Drawn.{accepted-drawn}
+use Rattle.theory.proofs.Nodes.{node-apart}
 use Rattle.theory.proofs.Places.{first-is-zone}
 use Rattle.theory.proofs.Searches.{by-search}
 use Rattle.theory.proofs.Readings.{zone-beneath-read}
+use Rattle.theory.proofs.Transects.{corner, passing, LevelNode}
 
 -- what holds of each vertex that is the point, of each edge that it lies on where it is no vertex, and of the zone read from beneath where it is neither, holds of the plain reading
 pub by-plain : (s : Sheet) (x y : ℕ) (Q : Answer → Type 0)
@@ -41,8 +49,20 @@ module _ (s : Sheet) (a : Accepted s) where
   end-here x y v e b i q d = (q, scale .level-same (yOf s v) y (sym (height d) ∙ scale .on-level e x y b .0 (i .1)))
     where
       height : IsEnd s v e → scaled s (2 * x) e ≡ level s (yOf s v)
-      height (inl w) = rw (← q, ← w) (scale .western-end e b)
-      height (inr w) = rw (← q, ← w) (scale .eastern-end e b)
+      height (inl w) = fan-level s (a .two) true x v e q (b, w)
+      height (inr w) = fan-level s (a .two) false x v e q (b, w)
+
+  -- an edge through a vertex ends there: one that passed would be as high as the vertex
+  vertex-ends : (x y v e : ℕ) → v < vertexCount s → IsVertex s x y v → e < edgeCount s → IsOn s x y e → IsEnd s v e
+  vertex-ends x y v e c j b i = go (eq-or-lt-of-le (i .0 .0)) (eq-or-lt-of-le (i .0 .1))
+    where
+      level-there : LevelNode s x (corner v) (passing e)
+      level-there = rw (j .1, mul-one (edgePart (segment s e) x)) (i .1)
+
+      go : (xOf s (westOf s e) ≡ x) ⊎ (xOf s (westOf s e) < x) → (x ≡ xOf s (eastOf s e)) ⊎ (x < xOf s (eastOf s e)) → IsEnd s v e
+      go (inl w) m = inl (vertex-one x y (westOf s e) v (a .two .0 e b .0 .0) c (end-here x y (westOf s e) e b i w (inl refl)) j)
+      go (inr l) (inl w) = inr (vertex-one x y (eastOf s e) v (a .two .0 e b .0 .1) c (end-here x y (eastOf s e) e b i (sym w) (inr refl)) j)
+      go (inr l) (inr m) = let one = node-apart s (accepted-drawn s a) x (corner v) (passing e) (c, j .0) (b, (l, m)) level-there in absurd (false≢true cc)
 
   -- an edge through a point that is no vertex is the only one
   edge-one : (x y e f : ℕ) → OffVertices s x y → e < edgeCount s → f < edgeCount s → IsOn s x y e → IsOn s x y f → e ≡ f
@@ -58,7 +78,7 @@ module _ (s : Sheet) (a : Accepted s) where
   -- the plain reading is the one thing that the point is in
   pub one-thing : (x y : ℕ) → OnSheet s x y → InOneThing s x y (plainReading s x y)
   one-thing x y o =
-      by-plain s x y (InOneThing s x y) (λ v b i. ((b, i), λ u c j. vertex-one x y u v c b j i)) on-edge (λ n m. (n, (m, zone)))
+      by-plain s x y (InOneThing s x y) (λ v b i. ((b, i), (λ u c j. vertex-one x y u v c b j i, λ e c o. vertex-ends x y v e b i c o))) on-edge (λ n m. (n, (m, zone)))
     where
       on-edge : OffVertices s x y → (e : ℕ) → e < edgeCount s → IsOn s x y e → InOneThing s x y (Edge e)
       on-edge n e b i = (n, ((b, i), λ f c j. edge-one x y f e n c b j i))

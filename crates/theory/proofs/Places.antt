@@ -13,10 +13,10 @@ use Rattle.subdivision.specs.Reading.{firstZone, lastZone}
 use Rattle.theory.proofs.Chains.{accepted-line, accepted-above}
 use Rattle.theory.proofs.ColumnNames.{column-filled}
 use Rattle.theory.proofs.Columns.{InColumn, TopOf, BottomOf, Kept}
-use Rattle.theory.proofs.Drawing.{accepted-drawn, drawingOf}
+use Rattle.theory.proofs.Drawn.{accepted-drawn, drawingOf}
 use Rattle.theory.proofs.DrawnRules.{drawn-kept}
 use Rattle.theory.proofs.Position.{entry-at-place}
-use Rattle.theory.proofs.Separators.{bottom-is, top-is, places-rise, separator-one, separator-in}
+use Rattle.theory.proofs.Separators.{below-only-is-bottom, above-only-is-top, separator-in}
 use Rattle.theory.proofs.ZoneLine.{line-entry-below, place-of-entry, full-places, line-kept}
 
 module _ (s : Sheet) (a : Accepted s) where
@@ -53,7 +53,7 @@ module _ (s : Sheet) (a : Accepted s) where
   place-within z h = omega (arith, accepted-line s a, full-places s (accepted-line s a) z h)
 
   -- zones of one place are one
-  pub place-one : (y z : ℕ) → y < zoneCount s → z < zoneCount s → placeOf s y ≡ placeOf s z → y ≡ z
+  place-one : (y z : ℕ) → y < zoneCount s → z < zoneCount s → placeOf s y ≡ placeOf s z → y ≡ z
   unfolding placeOf
   place-one y z g h e =
       sym (entry-at-place y (zoneLine s) (full-places s (accepted-line s a) y g))
@@ -74,8 +74,8 @@ module _ (s : Sheet) (a : Accepted s) where
   zones-parted two = ⊎-elim (λ e. omega (arith, e .1)) (λ o. omega (arith, o .0)) (a .six (firstZone s) first-is-zone)
 
   -- on a sheet without edges the first zone is the last
-  pub one-zone-drawn : edgeCount s ≡ 0 → firstZone s ≡ lastZone s
-  one-zone-drawn none =
+  pub undrawn-first-is-last : edgeCount s ≡ 0 → firstZone s ≡ lastZone s
+  undrawn-first-is-last none =
       place-one (firstZone s) (lastZone s) first-is-zone last-is-zone (omega (arith, first-has-place-0, last-has-last-place, not-two))
     where
       not-two : ¬ (1 < zoneCount s)
@@ -99,14 +99,14 @@ module _ (s : Sheet) (a : Accepted s) where
     where
       go : Named (firstZone s) → belowOf s e ≡ firstZone s
       go (f, b, inl i) = absurd (first-not-above f b i)
-      go (f, b, inr i) = bottom-is (drawingOf s) kept (firstZone s) first-not-above f b i x e bottom
+      go (f, b, inr i) = below-only-is-bottom (drawingOf s) kept (firstZone s) first-not-above f b i x e bottom
 
   -- the last zone is above the top edge of every column
   pub top-zone : (x e : ℕ) → TopOf (drawingOf s) x e → aboveOf s e ≡ lastZone s
   top-zone x e top = go (zone-named (omega (arith, top .0 .0)) (lastZone s) last-is-zone)
     where
       go : Named (lastZone s) → aboveOf s e ≡ lastZone s
-      go (f, b, inl i) = top-is (drawingOf s) kept (lastZone s) last-not-below f b i x e top
+      go (f, b, inl i) = above-only-is-top (drawingOf s) kept (lastZone s) last-not-below f b i x e top
       go (f, b, inr i) = absurd (last-not-below f b i)
 
   -- every column has an edge that separates the places below k from the others
@@ -128,13 +128,3 @@ module _ (s : Sheet) (a : Accepted s) where
 
       go : (e : ℕ) × InColumn (drawingOf s) x e → (e : ℕ) × InColumn (drawingOf s) x e × ((placeOf s (belowOf s e) < k) × (k ≤ placeOf s (aboveOf s e)))
       go (e, i) = separator-in (drawingOf s) kept (placeOf s) x k under over e i
-
-  -- no column has two such edges
-  pub separator-unique : (x k e f : ℕ) → InColumn (drawingOf s) x e → InColumn (drawingOf s) x f
-      → (placeOf s (belowOf s e) < k) × (k ≤ placeOf s (aboveOf s e)) → (placeOf s (belowOf s f) < k) × (k ≤ placeOf s (aboveOf s f)) → e ≡ f
-  separator-unique = separator-one (drawingOf s) kept (placeOf s) place-rises
-
-  -- up a column places rise, from above an edge to below a higher one weakly
-  pub rises-up : (x e f : ℕ) → InColumn (drawingOf s) x e → InColumn (drawingOf s) x f → drawingOf s .half x e < drawingOf s .half x f
-      → placeOf s (aboveOf s e) ≤ placeOf s (belowOf s f)
-  rises-up = places-rise (drawingOf s) kept (placeOf s) place-rises

@@ -29,5 +29,6 @@ module _ (s : Sheet) (among isFound : ℕ → Formula)
     read-one z w (inr n) (inl f) = absurd (n .0 (f .0) (f .1) (of-set (f .0) (f .2 .0)))
     read-one z w (inr n) (inr m) = n .1 ∙ sym (m .1)
 
+    -- the computed zone, and no other, is read
     pub read-is-computed : (z : ℕ) → IsRead z ↔ (z ≡ readFrom s isFound zoneOf other)
     read-is-computed z = (λ r. read-one z (readFrom s isFound zoneOf other) r computed-read, λ i. rw i computed-read)

@@ -3,7 +3,7 @@ use mathlib.Core.Path.{_≡_, refl, sym, _∙_}
 use mathlib.Core.Logic.{⊎-elim, _↔_}
 use Prim.Native.Nat.{ℕ, suc, _+_, _*_, _-_, _<_, _≤_}
 use native.Mathlib.Nat.{eq-or-lt-of-le, le-of-lt}
-use native.Mathlib.Omega.{arith}
+use native.Mathlib.Omega.{arith, by-contra}
 use borrow.Author.Tests.{lt-ltb}
 use Rattle.subdivision.specs.Formula.{Formula, both}
 use Rattle.subdivision.specs.Sheet.{Sheet, eastMargin, edgeCount, aboveOf, belowOf, segment}
@@ -15,9 +15,9 @@ use Rattle.subdivision.specs.Placed.{OnSheet, Inland, OffEdges, IsOn, Covers, U
 use Rattle.theory.proofs.Columns.{InColumn, HighestUnder, LowestOver, Kept}
 use Rattle.theory.proofs.Scale.{scaled, level, OneScale}
 use Rattle.theory.proofs.Scaling.{one-scale}
-use Rattle.theory.proofs.Drawing.{accepted-drawn, drawingOf}
+use Rattle.theory.proofs.Drawn.{accepted-drawn, drawingOf}
 use Rattle.theory.proofs.DrawnRules.{drawn-kept}
-use Rattle.theory.proofs.Places.{bottom-zone, top-zone, one-zone-drawn}
+use Rattle.theory.proofs.Places.{bottom-zone, top-zone, undrawn-first-is-last}
 use Rattle.theory.proofs.ColumnNames.{highest-under, lowest-over}
 use Rattle.theory.proofs.ColumnReadings.{ReadUnder, under-is-over, west-is-east}
 use Rattle.theory.proofs.SideViews.{SideView, view-plain, view-west}
@@ -25,10 +25,7 @@ use Rattle.theory.proofs.Sights.{Sight, sight-of, sight-one, sight-comp
 
 -- what is so just where p < q is not so just where q <= p
 not-less : (A : Type 0) (p q : ℕ) → A ↔ (p < q) → (A → ⊥) ↔ (q ≤ p)
-not-less A p q t = (λ n. at-least (λ l. n (t .1 l)), λ m o. omega (arith, t .0 o))
-  where
-    at-least : ¬ (p < q) → q ≤ p
-    at-least n = omega arith
+not-less A p q t = (λ n. by-contra q p (λ l. n (t .1 l)), λ m o. omega (arith, t .0 o))
 
 module _ (s : Sheet) (a : Accepted s) where
   scale : OneScale s
@@ -65,18 +62,18 @@ module _ (s : Sheet) (a : Accepted s) where
       over e = both (cover e) (isBelow (segment s e) x y)
 
       -- the reading from beneath
-      from-beneath : Sight s (v .column) under (isHighest s line under) (λ e. scaled s (2 * x) e < level s y) (HighestUnder (drawingOf s) (v .column) (scaled s (2 * x)) (level s y))
+      pub from-beneath : Sight s (v .column) under (isHighest s line under) (λ e. scaled s (2 * x) e < level s y) (HighestUnder (drawingOf s) (v .column) (scaled s (2 * x)) (level s y))
       from-beneath =
           sight-of v (λ e. isAbove (segment s e) x y) (isLower s line) (λ e. scaled s (2 * x) e < level s y) (λ g e. half g ≤ half e)
           (λ e. scale .under-level e x y) not-lower
-          (highest-under (drawingOf s) kept (v .column) (scaled s (2 * x)) (level s y)) (λ e f i j l m. kept .apart (v .column) e f i j (omega arith))
+          (highest-under (drawingOf s) (v .column) (scaled s (2 * x)) (level s y)) (λ e f i j l m. kept .apart (v .column) e f i j (omega arith))
 
       -- the reading from overhead
       from-overhead : Sight s (v .column) over (isLowest s line over) (λ e. level s y < scaled s (2 * x) e) (LowestOver (drawingOf s) (v .column) (scaled s (2 * x)) (level s y))
       from-overhead =
           sight-of v (λ e. isBelow (segment s e) x y) (λ e f. isLower s line f e) (λ e. level s y < scaled s (2 * x) e) (λ g e. half e ≤ half g)
           (λ e. scale .over-level e x y) (λ e f b c. not-lower f e c b)
-          (lowest-over (drawingOf s) kept (v .column) (scaled s (2 * x)) (level s y)) (λ e f i j l m. kept .apart (v .column) e f i j (omega arith))
+          (lowest-over (drawingOf s) (v .column) (scaled s (2 * x)) (level s y)) (λ e f i j l m. kept .apart (v .column) e f i j (omega arith))
 
       -- the zone read from beneath
       abbrev zoneUnder : ℕ
@@ -94,7 +91,7 @@ module _ (s : Sheet) (a : Accepted s) where
       -- off the edges, the zone read from beneath is the one read from overhead
       view-agrees : OffEdges s x y → zoneUnder ≡ zoneOver
       view-agrees off =
-          under-is-over (drawingOf s) kept (firstZone s) (lastZone s) (bottom-zone s a) (top-zone s a) (one-zone-drawn s a)
+          under-is-over (drawingOf s) kept (firstZone s) (lastZone s) (bottom-zone s a) (top-zone s a) (undrawn-first-is-last s a)
           (v .column) (scaled s (2 * x)) (level s y) zoneUnder zoneOver view-order (v .inside .0) (v .inside .1) (λ g i q. off g (i .0) (view-on g i q))
           (sight-read from-beneath (aboveOf s) (firstZone s)) (sight-read from-overhead (belowOf s) (lastZone s))
 
@@ -113,7 +110,7 @@ module _ (s : Sheet) (a : Accepted s) where
 
   module _ (x y : ℕ) (o : OnSheet s x y) where
     -- the view of the plain reading
-    plain-view : SideView s x (λ e. covers (eastMargin s) (segment s e) x) (readingLine s x)
+    pub plain-view : SideView s x (λ e. covers (eastMargin s) (segment s e) x) (readingLine s x)
     plain-view = view-plain s a x (o .0 .0) (o .0 .1)
 
     -- the zone read from beneath is the computed one
@@ -122,7 +119,7 @@ module _ (s : Sheet) (a : Accepted s) where
     zone-beneath-read = sight-computed (from-beneath plain-view y) (aboveOf s) (firstZone s)
 
     -- the zone read from overhead is the computed one
-    pub zone-overhead-read : (w : ℕ) → ReadOverhead s x y w ↔ (w ≡ zoneOverhead s x y)
+    zone-overhead-read : (w : ℕ) → ReadOverhead s x y w ↔ (w ≡ zoneOverhead s x y)
     unfolding zoneOverhead
     zone-overhead-read = sight-computed (from-overhead plain-view y) (belowOf s) (lastZone s)
 
@@ -142,12 +139,12 @@ module _ (s : Sheet) (a : Accepted s) where
     western-view = view-west s x (i .0) (le-of-lt (i .1))
 
     -- the zone read from beneath in the west is the computed one
-    pub zone-beneath-west-read : (w : ℕ) → ReadBeneathWest s x y w ↔ (w ≡ zoneBeneathWest s x y)
+    zone-beneath-west-read : (w : ℕ) → ReadBeneathWest s x y w ↔ (w ≡ zoneBeneathWest s x y)
     unfolding zoneBeneathWest
     zone-beneath-west-read = sight-computed (from-beneath western-view y) (aboveOf s) (firstZone s)
 
     -- the zone read from overhead in the west is the computed one
-    pub zone-overhead-west-read : (w : ℕ) → ReadOverheadWest s x y w ↔ (w ≡ zoneOverheadWest s x y)
+    zone-overhead-west-read : (w : ℕ) → ReadOverheadWest s x y w ↔ (w ≡ zoneOverheadWest s x y)
     unfolding zoneOverheadWest
     zone-overhead-west-read = sight-computed (from-overhead western-view y) (belowOf s) (lastZone s)
 

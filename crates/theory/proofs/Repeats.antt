@@ -14,8 +14,9 @@ use borrow.Author.Tests.{eqb-true, eq-eqb, not-true}
 use Rattle.subdivision.specs.Formula.{Formula, both, isEqual, notSo, holds, Means}
 use Rattle.subdivision.specs.Lowest.{lowest}
 use Rattle.subdivision.specs.Order.{Before, SortedBelow}
-use Rattle.subdivision.specs.Sheet.{sheetOf, vertexX, vertexY}
+use Rattle.subdivision.specs.Sheet.{Sheet, sheetOf, vertexCount, xOf, yOf, vertexX, vertexY}
 use Rattle.subdivision.specs.Rules.{vertexNew}
+use Rattle.subdivision.specs.Accepted.{Rule1}
 use Rattle.theory.proofs.Decide.{true-or-false, means, denies, fails, broken-item}
 use Rattle.theory.proofs.Groups.{pairKey}
 use Rattle.theory.proofs.Lowest.{leastOf, least-is-lowest}
@@ -126,3 +127,13 @@ module _ (vertices : List ℤ) (n : ℕ) (l : List ℕ) where
       whole : (v : ℕ) → v < n → not (holds (new v)) ≡ true
           → (i : ℕ) × (i < length l - 1) × (alike vertices l i ≡ true) × (after l i ≡ v)
       whole v h e = repeated v h (broken-item v (λ u. notSo (samePoint vertices u v)) (not-true (holds (new v)) e))
+
+-- rule 1: two vertices that are the same point are one
+pub same-point : (s : Sheet) → Rule1 s → (v u : ℕ) → v < vertexCount s → u < vertexCount s → xOf s v ≡ xOf s u → yOf s v ≡ yOf s u → v ≡ u
+same-point s rule1 v u h k p q = omega (arith, not-before, not-after)
+  where
+    not-before : ¬ (v < u)
+    not-before l = rule1 .1 u k v l (p, q)
+
+    not-after : ¬ (u < v)
+    not-after l = rule1 .1 v h u l (sym p, sym q)

@@ -1,10 +1,10 @@
 -- One scale for the heights of a sheet's edges: each height, multiplied by the other edges' widths, is a natural number, and order on a line is order of numbers.
 use mathlib.Core.Bool.{true, false}
 use mathlib.Core.Path.{_≡_}
-use mathlib.Core.Logic.{_⊎_, _↔_}
-use Prim.Native.Nat.{ℕ, zero, suc, _+_, _*_, _<_, _≤_}
+use mathlib.Core.Logic.{_↔_}
+use Prim.Native.Nat.{ℕ, zero, suc, _*_, _<_, _≤_}
 use lib.Dec.{eqb}
-use Rattle.subdivision.specs.Sheet.{Sheet, vertexCount, edgeCount, xOf, yOf, westOf, eastOf, segment}
+use Rattle.subdivision.specs.Sheet.{Sheet, edgeCount, xOf, yOf, westOf, eastOf, segment}
 use Rattle.subdivision.specs.Lines.{width, height, pointPart, edgePart}
 use Rattle.subdivision.specs.Accepted.{Lower}
 
@@ -47,24 +47,3 @@ module _ (s : Sheet) where
     pub level-same : (y z : ℕ) → level y ≡ level z → y ≡ z
     -- no height is above a level that both ends are at most at
     pub scaled-at-most : (c e y : ℕ) → e < edgeCount s → 2 * xOf s (westOf s e) ≤ c → c ≤ 2 * xOf s (eastOf s e) → yOf s (westOf s e) ≤ y → yOf s (eastOf s e) ≤ y → scaled c e ≤ level y
-
-  -- edge e reaches the abscissa x
-  abbrev pub Reaches : ℕ → ℕ → Type 0
-  Reaches x e = (e < edgeCount s) × ((xOf s (westOf s e) ≤ x) × (x ≤ xOf s (eastOf s e)))
-
-  -- edge e crosses the half line x + 1/2
-  abbrev pub Crosses : ℕ → ℕ → Type 0
-  Crosses x e = (e < edgeCount s) × ((xOf s (westOf s e) ≤ x) × (x < xOf s (eastOf s e)))
-
-  -- vertex v is an end of edge e
-  abbrev pub IsEnd : ℕ → ℕ → Type 0
-  IsEnd v e = (westOf s e ≡ v) ⊎ (eastOf s e ≡ v)
-
-  -- no two edges cross: on a half line they are apart, at its two abscissas they stand in the same order, weakly, and where they meet on an
-  -- abscissa they have a common end
-  pub record NoCrossing : Type 0 where
-    pub apart : (x e f : ℕ) → Crosses x e → Crosses x f → scaled (2 * x + 1) e ≡ scaled (2 * x + 1) f → e ≡ f
-    pub near : (x e f : ℕ) → Crosses x e → Crosses x f → scaled (2 * x + 1) e ≤ scaled (2 * x + 1) f → scaled (2 * x) e ≤ scaled (2 * x) f
-    pub far : (x e f : ℕ) → Crosses x e → Crosses x f → scaled (2 * x + 1) e ≤ scaled (2 * x + 1) f → scaled (2 * (x + 1)) e ≤ scaled (2 * (x + 1)) f
-    pub meet : (x e f : ℕ) → Reaches x e → Reaches x f → scaled (2 * x) e ≡ scaled (2 * x) f
-        → (e ≡ f) ⊎ ((v : ℕ) × (v < vertexCount s) × (xOf s v ≡ x) × (IsEnd v e × IsEnd v f))

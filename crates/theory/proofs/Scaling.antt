@@ -130,6 +130,7 @@ module _ (s : Sheet) where
             let o : (u + v) * (y * p) ≡ 2 * w * (y * p) = ap (λ (z : ℕ). z * (y * p)) k in
             omega arith
 
+    -- rule 2: the common scale keeps order
     pub one-scale : OneScale s
     one-scale =
         record {

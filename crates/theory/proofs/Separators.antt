@@ -9,17 +9,17 @@ use Rattle.theory.proofs.ColumnNames.{has-top, highest-under, lowest-ov
 use Rattle.theory.proofs.Columns.{Drawing, InColumn, NextInColumn, LowestOver, TopOf, BottomOf, Kept}
 use Rattle.theory.proofs.Flip.{flipped, flip-top, flip-kept}
 
-module _ (d : Drawing) (k : Kept d) where
+module _ (d : Drawing) where
   pub has-bottom : (c e : ℕ) → InColumn d c e → (t : ℕ) × BottomOf d c t
   has-bottom c e i =
-      let t = lowest-over d k c (λ g. 1) 0 e i (lt-suc-self 0) in
+      let t = lowest-over d c (λ g. 1) 0 e i (lt-suc-self 0) in
       (t .0, (t .1 .0 .0, λ g j. t .1 .1 g j (lt-suc-self 0)))
 
   -- an edge f of a column with an edge e under it has a next one down, and that is not under e
   next-down : (x e f : ℕ) → InColumn d x e → InColumn d x f → d .half x e < d .half x f
       → (g : ℕ) × NextInColumn d x g f × (d .half x e ≤ d .half x g)
   next-down x e f i j l =
-      let g = highest-under d k x (d .half x) (d .half x f) e i l in
+      let g = highest-under d x (d .half x) (d .half x f) e i l in
       (g .0, ((g .1 .0 .0, j), (g .1 .0 .1, λ h c u v. omega (arith, g .1 .1 h c v))), g .1 .1 e i l)
 
   -- an edge of a column is its bottom edge or has a next one down
@@ -33,11 +33,12 @@ module _ (d : Drawing) (k : Kept d) where
           under (yes m) = inl (j, λ g c. omega (arith, least g c))
           under (no m) = let g = next-down x b f i j (omega (arith, m)) in inr (g .0, g .1)
 
+module _ (d : Drawing) (k : Kept d) where
   -- a zone that is below some edge and above none is below the bottom edge of every column
-  pub bottom-is : (z : ℕ) → ((e : ℕ) → e < d .count → d .above e ≡ z → ⊥) → (e : ℕ) → e < d .count → d .below e ≡ z
+  pub below-only-is-bottom : (z : ℕ) → ((e : ℕ) → e < d .count → d .above e ≡ z → ⊥) → (e : ℕ) → e < d .count → d .below e ≡ z
       → (c f : ℕ) → BottomOf d c f → d .below f ≡ z
-  bottom-is z none e b same c f bottom =
-      go (bottom-or-next (d .from e) e (b, (le-refl (d .from e), k .inside e b .0 .1)))
+  below-only-is-bottom z none e b same c f bottom =
+      go (bottom-or-next d (d .from e) e (b, (le-refl (d .from e), k .inside e b .0 .1)))
     where
       go : BottomOf d (d .from e) e ⊎ ((g : ℕ) × NextInColumn d (d .from e) g e) → d .below f ≡ z
       go (inl i) = bottom-name-one d k c f (d .from e) e bottom i ∙ same
@@ -47,7 +48,7 @@ module _ (d : Drawing) (k : Kept d) where
     rise-within : (fuel x e f : ℕ) → d .half x f < fuel → InColumn d x e → InColumn d x f → d .half x e < d .half x f
         → place (d .above e) ≤ place (d .below f)
     rise-within zero x e f b i j l = absurd (not-suc-le-zero b)
-    rise-within (suc fuel) x e f b i j l = go (next-down x e f i j l) (λ g. rise-within fuel x e g)
+    rise-within (suc fuel) x e f b i j l = go (next-down d x e f i j l) (λ g. rise-within fuel x e g)
       where
         go : (g : ℕ) × NextInColumn d x g f × (d .half x e ≤ d .half x g)
             → ((g : ℕ) → d .half x g < fuel → InColumn d x e → InColumn d x g → d .half x e < d .half x g → place (d .above e) ≤ place (d .below g))
@@ -81,11 +82,11 @@ module _ (d : Drawing) (k : Kept d) where
   pub separator-in : (place : ℕ → ℕ) (x n : ℕ) → ((f : ℕ) → BottomOf d x f → place (d .below f) < n) → ((f : ℕ) → TopOf d x f → n ≤ place (d .above f))
       → (e : ℕ) → InColumn d x e → (f : ℕ) × InColumn d x f × ((place (d .below f) < n) × (n ≤ place (d .above f)))
   separator-in place x n under over e i =
-      let t = has-top d k x e i in
-      go (lowest-over d k x (λ g. suc (place (d .above g))) n (t .0) (t .1 .0) (omega (arith, over (t .0) (t .1))))
+      let t = has-top d x e i in
+      go (lowest-over d x (λ g. suc (place (d .above g))) n (t .0) (t .1 .0) (omega (arith, over (t .0) (t .1))))
     where
       go : (f : ℕ) × LowestOver d x (λ g. suc (place (d .above g))) n f → (f : ℕ) × InColumn d x f × ((place (d .below f) < n) × (n ≤ place (d .above f)))
-      go (f, ((j, high), least)) = (f, j, (low (bottom-or-next x f j), omega arith))
+      go (f, ((j, high), least)) = (f, j, (low (bottom-or-next d x f j), omega arith))
         where
           low : BottomOf d x f ⊎ ((g : ℕ) × NextInColumn d x g f) → place (d .below f) < n
           low (inl bottom) = under f bottom
@@ -96,6 +97,6 @@ module _ (d : Drawing) (k : Kept d) where
 
 module _ (d : Drawing) (k : Kept d) where
   -- a zone that is above some edge and below none is above the top edge of every column
-  pub top-is : (z : ℕ) → ((e : ℕ) → e < d .count → d .below e ≡ z → ⊥) → (e : ℕ) → e < d .count → d .above e ≡ z
+  pub above-only-is-top : (z : ℕ) → ((e : ℕ) → e < d .count → d .below e ≡ z → ⊥) → (e : ℕ) → e < d .count → d .above e ≡ z
       → (c f : ℕ) → TopOf d c f → d .above f ≡ z
-  top-is z none e b same c f top = bottom-is (flipped d) (flip-kept d k) z none e b same c f (flip-top d c f top)
+  above-only-is-top z none e b same c f top = below-only-is-bottom (flipped d) (flip-kept d k) z none e b same c f (flip-top d c f top)

@@ -7,7 +7,7 @@ use Rattle.subdivision.specs.Sheet.{Sheet, edgeCount}
 use Rattle.subdivision.specs.Reading.{readFrom}
 use Rattle.subdivision.specs.Placed.{ReadFrom}
 use Rattle.theory.proofs.Columns.{InColumn}
-use Rattle.theory.proofs.Drawing.{drawingOf}
+use Rattle.theory.proofs.Drawn.{drawingOf}
 use Rattle.theory.proofs.SideViews.{SideView}
 use Rattle.theory.proofs.ColumnReadings.{ReadIn}
 use Rattle.theory.proofs.ReadFrom.{read-is-computed}

@@ -9,13 +9,14 @@ use Rattle.theory.proofs.Beside.{lineBeside}
 use Rattle.theory.proofs.ColumnFans.{fanSide, top-of-fan, bottom-of-fan}
 use Rattle.theory.proofs.ColumnNames.{column-names-agree}
 use Rattle.theory.proofs.Columns.{TopThere, BottomThere, TopOf, BottomOf, NextInColumn, Kept}
-use Rattle.theory.proofs.Drawing.{Drawn, drawingOf}
+use Rattle.theory.proofs.Drawn.{Drawn, drawingOf}
 use Rattle.theory.proofs.DrawnRules.{drawn-kept}
 use Rattle.theory.proofs.FanOrder.{endOf, fan-order}
 use Rattle.theory.proofs.Meetings.{has-top-there, has-bottom-there, next-meeting, top-meeting, bottom-meeting}
 use Rattle.theory.proofs.Nodes.{AtNode, lower-by-edges, by-column, at-is-through, edge-at, node-at}
-use Rattle.theory.proofs.Scale.{scaled, Crosses}
-use Rattle.theory.proofs.Transects.{Node, corner, passing, OnTransect, LowerNode, NextNode, ZoneOver, ZoneUnder}
+use Rattle.theory.proofs.Crossings.{Crosses}
+use Rattle.theory.proofs.Scale.{scaled}
+use Rattle.theory.proofs.Transects.{Node, corner, passing, OnTransect, NextNode, NoneHigher, NoneLower, ZoneOver, ZoneUnder}
 
 -- what is so on one side is so on the west or on the east
 on-side : (P : Bool → Type 0) (eastern : Bool) → P eastern → P false ⊎ P true
@@ -41,14 +42,6 @@ module _ (s : Sheet) where
   abbrev FanBottom : ℕ → Bool → ℕ → Type 0
   FanBottom v eastern e = Lowest s (lineBeside eastern (xOf s v) 1) (λ g. endOf s eastern g ≡ v) e
 
-  -- no node of the transect at x is higher
-  abbrev pub NoneHigher : ℕ → Node → Type 0
-  NoneHigher x p = (q : Node) → OnTransect s x q → LowerNode s x p q → ⊥
-
-  -- no node of the transect at x is lower
-  abbrev pub NoneLower : ℕ → Node → Type 0
-  NoneLower x p = (q : Node) → OnTransect s x q → LowerNode s x q p → ⊥
-
 module _ (s : Sheet) (a : Drawn s) where
   kept : Kept (drawingOf s)
   kept = drawn-kept s a
@@ -63,11 +56,13 @@ module _ (s : Sheet) (a : Drawn s) where
   fan-bottom-one : (v : ℕ) (eastern : Bool) (e f : ℕ) → e < edgeCount s → f < edgeCount s → FanBottom s v eastern e → FanBottom s v eastern f → e ≡ f
   fan-bottom-one v eastern e f b c t u = fan-order s (a .two) (a .four) eastern v .total e f (b, t .0) (c, u .0) (u .1 e b (t .0)) (t .1 f c (u .0))
 
+  -- one zone is over a node, whichever side it is read from
   pub zone-over-one : (x : ℕ) (p : Node) (z w : ℕ) → OnTransect s x p → ZoneOver s p z → ZoneOver s p w → z ≡ w
   zone-over-one x (corner v) z w o (e, b, (p, i)) (f, c, (q, j)) =
       sym i ∙ one-name (edgeCount s) (FanTop s v) (aboveOf s) (fan-top-one v) (λ e f b c t u. a .five v (o .0) .1 .0 e b f c .0 (t, u)) e f b c p q ∙ j
   zone-over-one x (passing e) z w o i j = sym i ∙ j
 
+  -- and one is under it
   pub zone-under-one : (x : ℕ) (p : Node) (z w : ℕ) → OnTransect s x p → ZoneUnder s p z → ZoneUnder s p w → z ≡ w
   zone-under-one x (corner v) z w o (e, b, (p, i)) (f, c, (q, j)) =
       sym i ∙ one-name (edgeCount s) (FanBottom s v) (belowOf s) (fan-bottom-one v) (λ e f b c t u. a .five v (o .0) .1 .0 e b f c .1 (t, u)) e f b c p q ∙ j
@@ -76,7 +71,7 @@ module _ (s : Sheet) (a : Drawn s) where
   -- ---- beside a column
 
   -- the edges of a column stand at both its abscissas as on its half line, weakly
-  rises : (eastern : Bool) (c e f : ℕ) → Crosses s c e → Crosses s c f → scaled s (2 * c + 1) e ≤ scaled s (2 * c + 1) f
+  pub rises : (eastern : Bool) (c e f : ℕ) → Crosses s c e → Crosses s c f → scaled s (2 * c + 1) e ≤ scaled s (2 * c + 1) f
       → scaled s (2 * fanSide eastern c) e ≤ scaled s (2 * fanSide eastern c) f
   rises true = kept .near
   rises false = kept .far
@@ -91,7 +86,7 @@ module _ (s : Sheet) (a : Drawn s) where
     height = scaled s (2 * here)
 
     -- edge e is the top edge of the column at a node
-    abbrev TopAt : Node → ℕ → Type 0
+    abbrev pub TopAt : Node → ℕ → Type 0
     TopAt p e = TopThere (drawingOf s) c height e × AtNode s here p e
 
     -- edge e is the bottom edge of the column at a node
@@ -102,18 +97,18 @@ module _ (s : Sheet) (a : Drawn s) where
     has-top-at : westMargin s ≤ c → c < eastMargin s → (p : Node) → OnTransect s here p → (e : ℕ) × TopAt p e
     has-top-at w k p o =
         let f = edge-at s a eastern c w k p o in
-        let e = has-top-there (drawingOf s) c height (rises eastern c) kept (f .0) (f .1) in
+        let e = has-top-there (drawingOf s) c height (rises eastern c) (f .0) (f .1) in
         (e .0, (e .1, (o, e .2 ∙ f .2 .1)))
 
     -- and a bottom edge
     has-bottom-at : westMargin s ≤ c → c < eastMargin s → (p : Node) → OnTransect s here p → (e : ℕ) × BottomAt p e
     has-bottom-at w k p o =
         let f = edge-at s a eastern c w k p o in
-        let e = has-bottom-there (drawingOf s) c height (rises eastern c) kept (f .0) (f .1) in
+        let e = has-bottom-there (drawingOf s) c height (rises eastern c) (f .0) (f .1) in
         (e .0, (e .1, (o, e .2 ∙ f .2 .1)))
 
     -- the zone above the top edge at a node is over the node
-    above-top : (p : Node) (e : ℕ) → TopAt p e → ZoneOver s p (aboveOf s e)
+    pub above-top : (p : Node) (e : ℕ) → TopAt p e → ZoneOver s p (aboveOf s e)
     above-top (corner v) e (t, o) =
         let f = at-is-through s a eastern c (corner v) e (t .0) o in
         (e, f .0, (on-side (λ side. FanTop s v side e) eastern (top-of-fan s (a .two) eastern c v (o .0 .1) e f t), refl))
@@ -160,11 +155,13 @@ module _ (s : Sheet) (a : Drawn s) where
 
   -- ---- on a transect
 
+  -- a zone is over each node
   pub zone-over-some : (x : ℕ) (p : Node) → OnTransect s x p → (z : ℕ) × ZoneOver s p z
   zone-over-some x p o =
       by-column s a (λ x. OnTransect s x p → (z : ℕ) × ZoneOver s p z)
       (λ eastern c w k o. let e = has-top-at eastern c w k p o in (aboveOf s (e .0), above-top eastern c p (e .0) (e .1))) x p o o
 
+  -- and a zone is under it
   pub zone-under-some : (x : ℕ) (p : Node) → OnTransect s x p → (z : ℕ) × ZoneUnder s p z
   zone-under-some x p o =
       by-column s a (λ x. OnTransect s x p → (z : ℕ) × ZoneUnder s p z)

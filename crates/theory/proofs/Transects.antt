@@ -42,6 +42,14 @@ module _ (s : Sheet) where
       (OnTransect x p × OnTransect x q)
       × (LowerNode x p q × ((r : Node) → OnTransect x r → LowerNode x p r → LowerNode x r q → ⊥))
 
+  -- no node of the transect at x is higher
+  abbrev pub NoneHigher : ℕ → Node → Type 0
+  NoneHigher x p = (q : Node) → OnTransect x q → LowerNode x p q → ⊥
+
+  -- no node of the transect at x is lower
+  abbrev pub NoneLower : ℕ → Node → Type 0
+  NoneLower x p = (q : Node) → OnTransect x q → LowerNode x q p → ⊥
+
   -- zone z is over a node: the zone above a passing edge, or above the top edge of a vertex, on its west or on its east
   abbrev pub ZoneOver : Node → ℕ → Type 0
   ZoneOver (corner v) z =

@@ -169,3 +169,29 @@ pub fn fan() -> Sheet {
     }
     s
 }
+
+/// Chains of edges from margin to margin, one over the other, with vertices at few abscissas, so that many share one;
+/// zones and vertices are numbered at random.
+pub fn terraces(r: &mut Random, chains: usize) -> Sheet {
+    let (zone, vertex) = (shuffled(r, chains + 1), shuffled(r, 5 * chains));
+    let mut s = Sheet { west: -4, east: 4, zones: chains as u32 + 1, vertices: vec![], edges: vec![] };
+    let mut points = vec![];
+    for c in 0..chains {
+        let mut last = None;
+        for x in [-4i32, -1, 0, 1, 4] {
+            if x.abs() == 4 || r.below(2) == 0 {
+                points.push((x, 10 * c as i64 + r.between(0, 4)));
+                if let Some(west) = last.replace(points.len() - 1) {
+                    s.edges.extend_from_slice(&[west as u32, points.len() as u32 - 1, zone[c + 1] as u32, zone[c] as u32]);
+                }
+            }
+        }
+    }
+    let mut order: Vec<usize> = (0..points.len()).collect();
+    order.sort_by_key(|&v| vertex[v]);
+    order.iter().for_each(|&v| s.vertices.extend_from_slice(&[points[v].0, points[v].1 as i32]));
+    for e in s.edges.chunks_mut(4) {
+        e[..2].iter_mut().for_each(|v| *v = order.iter().position(|&o| o == *v as usize).unwrap() as u32);
+    }
+    s
+}

@@ -25,6 +25,7 @@ impl Edge {
     }
 }
 
+/// The edges of a sheet.
 fn edges(s: &Sheet) -> Vec<Edge> {
     let point = |v: u32| (s.vertices[2 * v as usize] as i64, s.vertices[2 * v as usize + 1] as i64);
     let edge = |e: &[u32]| {
@@ -106,43 +107,72 @@ fn point(r: &mut Random, s: &Sheet) -> (i64, i64) {
     }
 }
 
+/// How often each kind of answer came, and zones that are neither the first nor the last of the line, at either margin and elsewhere.
+#[derive(Default)]
+struct Counts {
+    kinds: [usize; 4],
+    inner: usize,
+    inner_at_west: usize,
+    inner_at_east: usize,
+}
+
+/// Reads points of an accepted sheet, and compares each with the reading by fractions.
+fn compare(r: &mut Random, s: &Sheet, points: usize, counts: &mut Counts) {
+    let line = line(s);
+    for _ in 0..points {
+        let (x, y) = point(r, s);
+        let on_sheet = s.west as i64 <= x && x <= s.east as i64 && y.abs() <= 1_000_000;
+        let expected = if on_sheet { plain(s, &line, x, y) } else { [0, 20, 0] };
+        assert_eq!(read(s, x as i32, y as i32), expected, "({x}, {y}) of {s:?}");
+        counts.kinds[expected[0] as usize] += 1;
+        if expected[0] == 3 && expected[1] != line[0] && expected[1] != *line.last().unwrap() {
+            counts.inner += 1;
+            counts.inner_at_west += (x == s.west as i64) as usize;
+            counts.inner_at_east += (x == s.east as i64) as usize;
+        }
+    }
+}
+
 #[test]
 fn points_are_read_as_by_fractions() {
     let mut r = Random::new("reading", 13);
-    let mut kinds = [0usize; 4];
-    let (mut margins, mut outer) = (0, 0);
+    let mut counts = Counts::default();
     for _ in 0..calls(300) {
         let surplus = r.below(24) as usize;
         let vertices = surplus + 3 + r.below(surplus as u64 + 1) as usize;
         let zones = [usize::MAX, 2 + surplus / 2][r.below(2) as usize];
         let s = sheets::accepted(&mut r, vertices, surplus, zones);
-        let line = line(&s);
-        for _ in 0..20 {
-            let (x, y) = point(&mut r, &s);
-            let on_sheet = s.west as i64 <= x && x <= s.east as i64 && y.abs() <= 1_000_000;
-            let expected = if on_sheet { plain(&s, &line, x, y) } else { [0, 20, 0] };
-            assert_eq!(read(&s, x as i32, y as i32), expected, "({x}, {y}) of {s:?}");
-            kinds[expected[0] as usize] += 1;
-            margins += (expected[0] == 3 && (x == s.west as i64 || x == s.east as i64)) as usize;
-            outer += (expected[0] == 3 && (expected[1] == line[0] || expected[1] == *line.last().unwrap())) as usize;
-        }
+        compare(&mut r, &s, 20, &mut counts);
+        let chains = 1 + r.below(6) as usize;
+        let s = sheets::terraces(&mut r, chains);
+        compare(&mut r, &s, 20, &mut counts);
     }
-    enough(&[("refused", kinds[0]), ("vertices", kinds[1]), ("edges", kinds[2]), ("zones", kinds[3]), ("zones at a margin", margins), ("the first or the last zone", outer)]);
+    compare(&mut r, &sheets::fan(), 100, &mut counts);
+    let [refused, vertices, edges, zones] = counts.kinds;
+    enough(&[("refused", refused), ("vertices", vertices), ("edges", edges), ("zones", zones), ("inner zones", counts.inner), ("inner zones at W", counts.inner_at_west), ("inner zones at E", counts.inner_at_east)]);
+}
+
+/// The lens sheet of document 01.
+fn lens() -> Sheet {
+    Sheet { west: 0, east: 4, zones: 3, vertices: vec![0, 0, 2, 2, 2, -2, 4, 0], edges: vec![0, 1, 2, 1, 1, 3, 2, 1, 0, 2, 1, 0, 2, 3, 1, 0] }
+}
+
+#[test]
+fn points_at_the_limits_of_the_sheet() {
+    assert_eq!(read(&lens(), 5, 0), [0, 20, 0]);
+    assert_eq!(read(&lens(), 4, 1_000_000), [3, 2, 0]);
+    assert_eq!(read(&lens(), 4, 1_000_001), [0, 20, 0]);
+    assert_eq!(read(&lens(), 0, -1_000_000), [3, 0, 0]);
+    assert_eq!(read(&lens(), 0, -1_000_001), [0, 20, 0]);
+    let blank = Sheet { west: -7, east: 9, zones: 1, ..Sheet::default() };
+    assert_eq!(read(&blank, -7, 3), [3, 0, 0]);
+    assert_eq!(read(&blank, -8, 3), [0, 20, 0]);
 }
 
 #[test]
 fn a_refused_sheet_is_refused_before_its_points() {
-    let lens = Sheet { west: 0, east: 4, zones: 3, vertices: vec![0, 0, 2, 2, 2, -2, 4, 0], edges: vec![0, 1, 2, 1, 1, 3, 2, 1, 0, 2, 1, 0, 2, 3, 1, 0] };
-    assert_eq!(read(&lens, 5, 0), [0, 20, 0]);
-    assert_eq!(read(&lens, 4, 1_000_000), [3, 2, 0]);
-    assert_eq!(read(&lens, 4, 1_000_001), [0, 20, 0]);
-    assert_eq!(read(&lens, 0, -1_000_000), [3, 0, 0]);
-    assert_eq!(read(&lens, 0, -1_000_001), [0, 20, 0]);
-    let one_zone_more = Sheet { zones: 4, ..lens.clone() };
+    let one_zone_more = Sheet { zones: 4, ..lens() };
     assert_eq!(read(&one_zone_more, 5, 0), [0, 12, 3], "12 goes before 20");
-    let blank = Sheet { west: -7, east: 9, zones: 1, ..Sheet::default() };
-    assert_eq!(read(&blank, -7, 3), [3, 0, 0]);
-    assert_eq!(read(&blank, -8, 3), [0, 20, 0]);
-    let none = Sheet { zones: 0, ..blank };
-    assert_eq!(read(&none, 0, 0), [0, 1, 0]);
+    let none = Sheet { zones: 0, ..lens() };
+    assert_eq!(read(&none, 5, 0), [0, 1, 0], "1 goes before 20");
 }

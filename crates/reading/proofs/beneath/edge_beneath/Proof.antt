@@ -5,7 +5,7 @@ use Prim.Native.Nat.{_+_, _≤_, _-_, _/_}
 use native.Mathlib.Omega.{arith}
 use borrow.Author.Needs.{needs}
 use lib.ListN.{length}
-use Rattle.reading.specs.Nearest.{highestTo, edgeBeneath}
+use Rattle.reading.specs.Scans.{highestTo, edgeBeneath}
 use Rattle.reading.proofs.OnePass.{highest-taken, highest-kept}
 use Rattle.reading.proofs.beneath.edge_beneath.Statement.{statement}
 use Rattle.reading.proofs.beneath.edge_beneath.Tie as tie

@@ -5,7 +5,7 @@ use borrow.Author.Tests.{eq-eqb, ne-eqb, not-true, not-false}
 use Rattle.subdivision.specs.declared.Segment.{Segment}
 use Rattle.subdivision.specs.Formula.{Formula, isEqual, both, either, holds}
 use Rattle.subdivision.specs.Sheet.{segmentOf}
-use Rattle.reading.specs.Nearest.{lowerBetween, isBeneath}
+use Rattle.reading.specs.Scans.{lowerBetween, isBeneath}
 use Rattle.theory.proofs.Decide.{both-goes-on, both-ends, either-goes-on, either-ends}
 use Rattle.reading.proofs.beneath.takes_over.Statement.{statement}
 use Rattle.reading.proofs.beneath.takes_over.Tie as tie

@@ -1,4 +1,4 @@
--- The highest edge beneath a point, kept by one pass over the edges and decided by side tests, and the answer made of it.
+-- What the scans of vertices and edges find: the vertex or edge that a point is on, the highest edge beneath it by side tests, and the answer made of them.
 use mathlib.Core.Bool.{true, false}
 use mathlib.Core.List.{List, []}
 use Prim.Native.Nat.{ℕ, zero, suc, _/_}
@@ -25,8 +25,8 @@ vertexAt vertices x y = lowest (λ v. holds (isVertex (sheetOf (pos 0) (pos 0) v
 
 module _ (vertices : List ℤ) (edges : List ℕ) (x y : ℕ) where
   -- the lowest edge that the point lies on; their number where there is none
-  abbrev pub edgeAt : ℕ
-  edgeAt = lowest (λ e. holds (isOn (segmentOf vertices edges e) x y)) (length edges / 4)
+  abbrev pub edgeOn : ℕ
+  edgeOn = lowest (λ e. holds (isOn (segmentOf vertices edges e) x y)) (length edges / 4)
 
   module _ (margin : ℕ) where
     -- edge e covers x, on a sheet with that eastern margin, and is strictly below the point
@@ -57,5 +57,5 @@ module _ (vertices : List ℤ) (edges : List ℕ) (x y : ℕ) where
         elim (ltb (vertexAt vertices x y) (length vertices / 2)) [
           | true ↦ Vertex (vertexAt vertices x y)
           | false ↦
-              elim (ltb edgeAt (length edges / 4)) [ true ↦ Edge edgeAt | false ↦ Zone (zoneFrom first) ]
+              elim (ltb edgeOn (length edges / 4)) [ true ↦ Edge edgeOn | false ↦ Zone (zoneFrom first) ]
         ]

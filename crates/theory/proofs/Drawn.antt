@@ -15,6 +15,7 @@ pub record Drawn (s : Sheet) : Type 0 where
   pub four : Rule4 s
   pub five : Rule5 s
 
+-- an accepted sheet keeps them
 pub accepted-drawn : (s : Sheet) → Accepted s → Drawn s
 accepted-drawn s a = record { margins = a .margins; one = a .one; two = a .two; three = a .three; four = a .four; five = a .five }
 
