@@ -12,7 +12,7 @@ use Rattle.subdivision.specs.Formula.{holds}
 use Rattle.subdivision.specs.Sheet.{edgeAbove, edgeBelow}
 use Rattle.theory.proofs.Decide.{held}
 use Rattle.fans.specs.Fans.{furthest, bothDrawn, fansTied, marginTied}
-use Rattle.fans.proofs.Choices.{first-choice}
+use Rattle.theory.proofs.Choices.{first-choice}
 
 module _ (vertices : List ℤ) (edges : List ℕ) where
   -- two fans that are not empty

@@ -8,7 +8,7 @@ use Rattle.subdivision.specs.Formula.{Formula, isEqual, both, notSo, holds}
 use Rattle.subdivision.specs.Sheet.{vertexX}
 use Rattle.theory.proofs.Decide.{held, fails}
 use Rattle.fans.specs.Fans.{fanOf, marginTied, faultBetween}
-use Rattle.fans.proofs.Choices.{first-choice}
+use Rattle.theory.proofs.Choices.{first-choice}
 
 module _ (west : ℕ) (vertices : List ℤ) (edges : List ℕ) (under over : ℕ) where
   -- the two vertices are on the margin

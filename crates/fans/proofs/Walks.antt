@@ -11,7 +11,7 @@ use lib.ListN.{length, getD, drop}
 use lib.Seq.{drop-cons}
 use borrow.Author.Tests.{eq-eqb, ne-eqb}
 use Rattle.fans.specs.Fans.{isUnder, goesOn, furthestFrom, furthest, nearer}
-use Rattle.fans.proofs.Choices.{first-choice, second-choice}
+use Rattle.theory.proofs.Choices.{first-choice, second-choice}
 
 module _ (vertices : List ℤ) (edges : List ℕ) (eastern : Bool) where
   -- the furthest edge of no fan is 0

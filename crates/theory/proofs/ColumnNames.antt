@@ -3,62 +3,17 @@ use mathlib.Core.Path.{_≡_, sym, ap, _∙_}
 use mathlib.Core.Logic.{⊎-elim}
 use Prim.Native.Nat.{ℕ, zero, suc, _-_, _<_, _≤_}
 use native.Mathlib.Decide.{decLe}
-use native.Mathlib.Nat.{eq-or-lt-of-le, le-of-suc-le-suc, lt-of-not-le}
+use native.Mathlib.Nat.{eq-or-lt-of-le, le-of-suc-le-suc}
 use native.Mathlib.Omega.{arith, by-contra}
-use Rattle.subdivision.specs.Formula.{Formula, isLess, isAtMost, both}
-use Rattle.theory.proofs.Columns.{Drawing, InColumn, Rises, NextInColumn, TopThere, HighestUnder, LowestOver, TopOf, BottomOf, Kept}
+use Rattle.theory.proofs.ColumnNeighbours.{has-top, highest-under, lowest-over, highest-top-there, lower-on-half, next-between, top-highest}
+use Rattle.theory.proofs.Columns.{Drawing, InColumn, NextInColumn, HighestUnder, LowestOver, TopOf, BottomOf, Kept}
 use Rattle.theory.proofs.Flip.{flipped, flip-kept, flip-bottom, flip-lowest, unflip-across}
-use Rattle.theory.proofs.Tops.{has-highest, has-lowest}
 
 -- what holds of a column, and passes from each to the next, holds of every column on from it
 from-column : (P : ℕ → Type 0) (c : ℕ) → P c → ((b : ℕ) → c ≤ b → P b → P (suc b)) → (b : ℕ) → c ≤ b → P b
 from-column P c p next zero l = let same : c ≡ 0 = omega arith in rw same at p
 from-column P c p next (suc b) l =
     ⊎-elim (λ (same : c ≡ suc b). rw same at p) (λ m. let n = le-of-suc-le-suc m in next b n (from-column P c p next b n)) (eq-or-lt-of-le l)
-
-module _ (d : Drawing) where
-  -- edge e crosses column x, as a formula
-  abbrev inColumn : ℕ → ℕ → Formula
-  inColumn x e = both (isLess e (d .count)) (both (isAtMost (d .from e) x) (isLess x (d .to e)))
-
-  pub has-top : (c e : ℕ) → InColumn d c e → (t : ℕ) × TopOf d c t
-  has-top c e i =
-      let t = has-highest (inColumn c) (d .half c) (d .count) e (i .0) i in
-      (t .0, (t .1 .1 .0, λ g j. t .1 .1 .1 g (j .0) j))
-
-  pub highest-under : (c : ℕ) (h : ℕ → ℕ) (level e : ℕ) → InColumn d c e → h e < level → (f : ℕ) × HighestUnder d c h level f
-  highest-under c h level e i l =
-      let t = has-highest (λ g. both (inColumn c g) (isLess (h g) level)) (d .half c) (d .count) e (i .0) (i, l) in
-      (t .0, (t .1 .1 .0, λ g j m. t .1 .1 .1 g (j .0) (j, m)))
-
-  pub lowest-over : (c : ℕ) (h : ℕ → ℕ) (level e : ℕ) → InColumn d c e → level < h e → (f : ℕ) × LowestOver d c h level f
-  lowest-over c h level e i l =
-      let t = has-lowest (λ g. both (inColumn c g) (isLess level (h g))) (d .half c) (d .count) e (i .0) (i, l) in
-      (t .0, (t .2 .0, λ g j m. t .2 .1 g (j .0) (j, m)))
-
-  highest-top-there : (c : ℕ) (h : ℕ → ℕ) (level e : ℕ) → HighestUnder d c h level e → TopThere d c h e
-  highest-top-there c h level e t = (t .0 .0, λ g i q. t .1 g i (omega (arith, q, t .0 .1)))
-
-  -- heights h that rise, weakly, with those on the half line of column c
-  module _ (c : ℕ) (h : ℕ → ℕ) (rises : Rises d c h) where
-    pub lower-on-half : (e f : ℕ) → InColumn d c e → InColumn d c f → h e < h f → d .half c e < d .half c f
-    lower-on-half e f i j l = lt-of-not-le (λ m. omega (arith, rises f e j i m))
-
-    -- the highest edge under one level and the lowest over another are neighbours, where each edge is under the one or over the other
-    next-between : (high low e f : ℕ) → HighestUnder d c h high e → LowestOver d c h low f → h e < h f
-        → ((g : ℕ) → InColumn d c g → high ≤ h g → h g ≤ low → ⊥) → NextInColumn d c e f
-    next-between high low e f a b l none =
-        ((a .0 .0, b .0 .0), (lower-on-half e f (a .0 .0) (b .0 .0) l, λ g i m n. none g i (by-contra high (h g) (λ u. omega (arith, a .1 g i u))) (by-contra (h g) low (λ o. omega (arith, b .1 g i o)))))
-
-  -- where no edge of a column passes a level, the highest edge under it and the lowest over it are neighbours
-  pub next-across : (c : ℕ) (h : ℕ → ℕ) (level e f : ℕ)
-      → Rises d c h
-      → HighestUnder d c h level e → LowestOver d c h level f → ((g : ℕ) → InColumn d c g → h g ≡ level → ⊥) → NextInColumn d c e f
-  next-across c h level e f rises a b none =
-      next-between c h rises level level e f a b (omega (arith, a .0 .1, b .0 .1)) (λ g i l m. none g i (omega arith))
-
-  top-highest : (c : ℕ) (h : ℕ → ℕ) (e : ℕ) → h e ≤ d .cap → TopOf d c e → HighestUnder d c h (suc (d .cap)) e
-  top-highest c h e b t = ((t .0, omega arith), λ g i l. t .1 g i)
 
 module _ (d : Drawing) (k : Kept d) where
   west-of-column : (c e : ℕ) → InColumn d c e → d .west ≤ c

@@ -8,7 +8,8 @@ use Rattle.subdivision.specs.Sheet.{Sheet, westMargin, eastMargin, edgeCount, z
 use Rattle.subdivision.specs.Accepted.{Accepted, Lower, Highest, Lowest, NextUp}
 use Rattle.subdivision.specs.Index.{placeOf}
 use Rattle.subdivision.specs.Reading.{firstZone, lastZone}
-use Rattle.theory.proofs.ColumnNames.{has-top, column-names-agree, column-filled, top-name-one, bottom-name-one}
+use Rattle.theory.proofs.ColumnNames.{column-names-agree, column-filled, top-name-one, bottom-name-one}
+use Rattle.theory.proofs.ColumnNeighbours.{has-top, has-bottom}
 use Rattle.theory.proofs.Columns.{NextInColumn, TopOf, BottomOf, Kept}
 use Rattle.theory.proofs.Drawn.{Drawn, accepted-drawn, drawingOf}
 use Rattle.theory.proofs.DrawnRules.{drawn-kept}
@@ -16,7 +17,7 @@ use Rattle.theory.proofs.Places.{first-has-place-0, last-has-last-place
 use Rattle.theory.proofs.Crossings.{Crosses}
 use Rattle.theory.proofs.Scale.{scaled}
 use Rattle.theory.proofs.Scaling.{one-scale}
-use Rattle.theory.proofs.Separators.{has-bottom, places-rise, separator-one}
+use Rattle.theory.proofs.Separators.{places-rise, separator-one}
 use Rattle.theory.proofs.TransectNames.{zone-over-one, zone-under-one, highest-node-top, lowest-node-bottom}
 use Rattle.theory.proofs.Transects.{Node, OnTransect, NoneHigher, NoneLower, ZoneOver, ZoneUnder}
 

@@ -3,8 +3,9 @@ use mathlib.Core.Path.{_≡_, sym, _∙_}
 use mathlib.Core.Logic.{_⊎_, inl, inr}
 use Prim.Native.Nat.{ℕ, suc, _<_, _≤_}
 use native.Mathlib.Omega.{arith}
+use Rattle.theory.proofs.ColumnNeighbours.{next-across}
 use Rattle.theory.proofs.Columns.{Drawing, InColumn, Rises, HighestUnder, LowestOver, TopOf, BottomOf, Kept}
-use Rattle.theory.proofs.ColumnNames.{cut-above, next-across, column-names-agree, column-filled}
+use Rattle.theory.proofs.ColumnNames.{cut-above, column-names-agree, column-filled}
 
 module _ (d : Drawing) where
   -- zone z is read in column c: it is the found edge's; where no edge of the column is seen it is another

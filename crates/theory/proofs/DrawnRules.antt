@@ -3,7 +3,7 @@ use mathlib.Core.Path.{_≡_, refl, sym, ap, _∙_}
 use mathlib.Core.Bool.{Bool, true, false, not}
 use mathlib.Core.Logic.{_⊎_, inl, inr, ⊎-elim}
 use Prim.Native.Nat.{ℕ, suc, _+_, _*_, _<_, _≤_}
-use native.Mathlib.Decide.{decLe, ℕ-discrete}
+use native.Mathlib.Decide.{ℕ-discrete}
 use native.Mathlib.Nat.{lt-irrefl}
 use native.Mathlib.Numerals.{add-one}
 use native.Mathlib.Omega.{arith, by-contra}
@@ -11,22 +11,14 @@ use Rattle.subdivision.specs.Limits.{highestCoordinate}
 use Rattle.subdivision.specs.Sheet.{Sheet, westMargin, eastMargin, vertexCount, edgeCount, xOf, yOf, westOf, eastOf, aboveOf, belowOf}
 use Rattle.subdivision.specs.Accepted.{HasEastern, NextOnMargin}
 use Rattle.theory.proofs.FanOrder.{endOf}
-use Rattle.theory.proofs.Columns.{Drawing, InColumn, NextInColumn, TopThere, BottomThere, Kept}
+use Rattle.theory.proofs.ColumnNeighbours.{beside-neighbours}
+use Rattle.theory.proofs.Columns.{Rises, NextInColumn, TopThere, BottomThere, Kept}
 use Rattle.theory.proofs.Crossings.{Crosses, NoCrossing}
 use Rattle.theory.proofs.Scale.{scaled, level}
 use Rattle.theory.proofs.Scaling.{one-scale}
 use Rattle.theory.proofs.NoCrossing.{no-crossing}
 use Rattle.theory.proofs.Drawn.{Drawn, drawingOf}
 use Rattle.theory.proofs.ColumnFans.{fanSide, passing-crosses, crossing-passes, OfOneVertex, columns-meet, has-fan, end-vertex, fan-crosses, fan-level, fans-meet, next-of-fan, top-of-fan, bottom-of-fan}
-
--- an edge of a column is at most as high as the lower of two neighbours, or at least as high as the upper
-beside-neighbours : (d : Drawing) (x e f g : ℕ) → NextInColumn d x e f → InColumn d x g → (d .half x g ≤ d .half x e) ⊎ (d .half x f ≤ d .half x g)
-beside-neighbours d x e f g n c = go (decLe (d .half x g) (d .half x e)) (decLe (d .half x f) (d .half x g))
-  where
-    go : Dec (d .half x g ≤ d .half x e) → Dec (d .half x f ≤ d .half x g) → (d .half x g ≤ d .half x e) ⊎ (d .half x f ≤ d .half x g)
-    go (yes l) m = inl l
-    go (no l) (yes m) = inr m
-    go (no l) (no m) = absurd (n .1 .1 g c (omega arith) (omega arith))
 
 module _ (s : Sheet) (k : Drawn s) where
   clear : NoCrossing s
@@ -162,3 +154,8 @@ module _ (s : Sheet) (k : Drawn s) where
         tops = tops-agree;
         bottoms = bottoms-agree;
       }
+
+  -- the edges of a column stand at both its abscissas as on its half line, weakly
+  pub column-rises : (eastern : Bool) (c : ℕ) → Rises (drawingOf s) c (scaled s (2 * fanSide eastern c))
+  column-rises true = drawn-kept .near
+  column-rises false = drawn-kept .far

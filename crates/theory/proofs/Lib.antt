@@ -1,9 +1,11 @@
 -- Laws of the definitions of `subdivision`, a file a subject.
 pub mod Beside
 pub mod Chains
+pub mod Choices
 pub mod Circles
 pub mod ColumnFans
 pub mod ColumnNames
+pub mod ColumnNeighbours
 pub mod ColumnOrder
 pub mod ColumnReadings
 pub mod Columns

@@ -3,8 +3,8 @@ use mathlib.Core.Path.{_≡_}
 use Prim.Native.Nat.{ℕ, suc, _<_}
 use native.Mathlib.Nat.{lt-suc-self, lt-of-not-le}
 use native.Mathlib.Omega.{arith, by-contra}
+use Rattle.theory.proofs.ColumnNeighbours.{highest-under, lowest-over, lower-on-half}
 use Rattle.theory.proofs.Columns.{Drawing, InColumn, Rises, NextInColumn, TopThere, BottomThere, TopOf, BottomOf}
-use Rattle.theory.proofs.ColumnNames.{highest-under, lowest-over, lower-on-half}
 
 -- heights h that rise, weakly, with those on the half line of column c
 module _ (d : Drawing) (c : ℕ) (h : ℕ → ℕ) (rises : Rises d c h) where

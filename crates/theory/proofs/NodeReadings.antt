@@ -1,11 +1,9 @@
 -- The plain reading of a point by the nodes of its transect: the zone read from beneath is the zone over the highest node under the point, and where none is under it the first zone.
 use mathlib.Core.Path.{_≡_, _∙_}
-use mathlib.Core.Bool.{Bool, true, false}
-use mathlib.Core.Logic.{inl, inr, ⊎-elim}
-use Prim.Native.Nat.{ℕ, suc, _*_, _<_, _≤_}
-use native.Mathlib.Nat.{eq-or-lt-of-le}
+use mathlib.Core.Bool.{Bool}
+use mathlib.Core.Logic.{inl, inr}
+use Prim.Native.Nat.{ℕ, _*_, _<_, _≤_}
 use native.Mathlib.Omega.{arith}
-use Rattle.subdivision.specs.Formula.{Formula}
 use Rattle.subdivision.specs.Sheet.{Sheet, westMargin, eastMargin, aboveOf}
 use Rattle.subdivision.specs.Accepted.{Accepted}
 use Rattle.subdivision.specs.Reading.{firstZone, zoneBeneath}
@@ -14,36 +12,28 @@ use Rattle.theory.proofs.ColumnFans.{fanSide}
 use Rattle.theory.proofs.ColumnReadings.{ReadUnder}
 use Rattle.theory.proofs.Columns.{HighestUnder}
 use Rattle.theory.proofs.Drawn.{Drawn, accepted-drawn, drawingOf}
+use Rattle.theory.proofs.DrawnRules.{column-rises}
 use Rattle.theory.proofs.Nodes.{nodeHeight, lower-node-less, edge-at, node-at}
 use Rattle.theory.proofs.Readings.{from-beneath, plain-view}
 use Rattle.theory.proofs.Scale.{scaled, level}
-use Rattle.theory.proofs.SideViews.{SideView}
+use Rattle.theory.proofs.SideViews.{by-view}
 use Rattle.theory.proofs.Sights.{sight-read}
-use Rattle.theory.proofs.TransectNames.{TopAt, above-top, rises, zone-over-one}
+use Rattle.theory.proofs.TransectNames.{TopAt, above-top, zone-over-one}
 use Rattle.theory.proofs.Transects.{Node, OnTransect, LowerNode, ZoneOver}
 
 module _ (s : Sheet) where
   -- node p of the transect at x is the highest of those under a level
-  abbrev HighestNodeUnder : ℕ → ℕ → Node → Type 0
+  abbrev pub HighestNodeUnder : ℕ → ℕ → Node → Type 0
   HighestNodeUnder x t p =
       (OnTransect s x p × (nodeHeight s x p < t)) × ((q : Node) → OnTransect s x q → nodeHeight s x q < t → LowerNode s x p q → ⊥)
 
   -- no node of the transect at x is under a level
-  abbrev NoNodeUnder : ℕ → ℕ → Type 0
+  abbrev pub NoNodeUnder : ℕ → ℕ → Type 0
   NoNodeUnder x t = (q : Node) → OnTransect s x q → nodeHeight s x q < t → ⊥
 
   -- under a level at the abscissa x, column c reads no zone but z
   abbrev ReadsAs : ℕ → ℕ → ℕ → ℕ → Type 0
   ReadsAs t z c x = (r : ℕ) → ReadUnder (drawingOf s) c (scaled s (2 * x)) t (firstZone s) r → r ≡ z
-
-  -- what is so of every column between the margins with each of its two abscissas is so of a view's column with the abscissa viewed
-  by-view : (P : ℕ → ℕ → Type 0) → ((eastern : Bool) (c : ℕ) → westMargin s ≤ c → c < eastMargin s → P c (fanSide eastern c))
-      → {x line : ℕ} {cover : ℕ → Formula} (v : SideView s x cover line) → P (v .column) x
-  by-view P f {x} v =
-      ⊎-elim
-      (λ (i : v .column ≡ x). rw (← i) (f true (v .column) (v .inside .0) (v .inside .1)))
-      (λ (l : v .column < x). let i : x ≡ suc (v .column) = omega (arith, v .beside .1) in rw i (f false (v .column) (v .inside .0) (v .inside .1)))
-      (eq-or-lt-of-le (v .beside .0))
 
 module _ (s : Sheet) (a : Drawn s) where
   -- a column between the margins, and the transect beside it where its eastern fans are, or where its western ones are
@@ -58,7 +48,7 @@ module _ (s : Sheet) (a : Drawn s) where
         at-least : nodeHeight s here p ≤ scaled s (2 * here) e
         at-least =
             let f = edge-at s a eastern c w k p o in
-            rw (← f .2 .1) (rises s a eastern c (f .0) e (f .1) i (top (f .0) (f .1) (rw (f .2 .1) l)))
+            rw (← f .2 .1) (column-rises s a eastern c (f .0) e (f .1) i (top (f .0) (f .1) (rw (f .2 .1) l)))
 
         not-over : ¬ (nodeHeight s here p < scaled s (2 * here) e)
         not-over h =
@@ -91,14 +81,13 @@ module _ (s : Sheet) (a : Accepted s) where
       by-view s (λ c b. Kind b → ReadsAs s (level s y) z c b) f v n (zoneBeneath s x y) (sight-read (from-beneath s a v y) (aboveOf s) (firstZone s))
 
   -- the zone read from beneath is the zone over the highest node under the point
-  pub zone-over-node-read : (x y : ℕ) (p : Node) (z : ℕ) → OnSheet s x y → OnTransect s x p → nodeHeight s x p < level s y
-      → ((q : Node) → OnTransect s x q → nodeHeight s x q < level s y → LowerNode s x p q → ⊥) → ZoneOver s p z → zoneBeneath s x y ≡ z
-  zone-over-node-read x y p z o n l none over =
+  pub zone-over-node-read : (x y : ℕ) (p : Node) (z : ℕ) → OnSheet s x y → HighestNodeUnder s x (level s y) p → ZoneOver s p z → zoneBeneath s x y ≡ z
+  zone-over-node-read x y p z o n over =
       by-column-read x y z (λ b. HighestNodeUnder s b (level s y) p) o
-      (λ eastern c w k. over-node-read s (accepted-drawn s a) eastern c w k (level s y) z p over) ((n, l), none)
+      (λ eastern c w k. over-node-read s (accepted-drawn s a) eastern c w k (level s y) z p over) n
 
   -- where no node is under the point, the zone read from beneath is the first
-  pub no-node-under-read : (x y : ℕ) → OnSheet s x y → ((q : Node) → OnTransect s x q → nodeHeight s x q < level s y → ⊥) → zoneBeneath s x y ≡ firstZone s
+  pub no-node-under-read : (x y : ℕ) → OnSheet s x y → NoNodeUnder s x (level s y) → zoneBeneath s x y ≡ firstZone s
   no-node-under-read x y o =
       by-column-read x y (firstZone s) (λ b. NoNodeUnder s b (level s y)) o
       (λ eastern c w k. under-nodes-read s (accepted-drawn s a) eastern c w k (level s y))

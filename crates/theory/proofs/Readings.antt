@@ -1,8 +1,8 @@
 -- The four readings of a point on an accepted sheet: each has one answer, which is the one computed, and where the point lies on no edge the four agree.
 use mathlib.Core.Path.{_≡_, refl, sym, _∙_}
-use mathlib.Core.Logic.{⊎-elim, _↔_}
+use mathlib.Core.Logic.{_↔_}
 use Prim.Native.Nat.{ℕ, suc, _+_, _*_, _-_, _<_, _≤_}
-use native.Mathlib.Nat.{eq-or-lt-of-le, le-of-lt}
+use native.Mathlib.Nat.{le-of-lt}
 use native.Mathlib.Omega.{arith, by-contra}
 use borrow.Author.Tests.{lt-ltb}
 use Rattle.subdivision.specs.Formula.{Formula, both}
@@ -12,15 +12,15 @@ use Rattle.subdivision.specs.Neighbours.{isLower, isHighest, isLowest}
 use Rattle.subdivision.specs.Accepted.{Accepted, Lower, Highest}
 use Rattle.subdivision.specs.Reading.{readingLine, readFrom, firstZone, lastZone, zoneBeneath, zoneOverhead, zoneBeneathWest, zoneOverheadWest}
 use Rattle.subdivision.specs.Placed.{OnSheet, Inland, OffEdges, IsOn, Covers, Under, ReadBeneath, ReadOverhead, ReadBeneathWest, ReadOverheadWest, ReadSo, ZonesAgree}
-use Rattle.theory.proofs.Columns.{InColumn, HighestUnder, LowestOver, Kept}
+use Rattle.theory.proofs.ColumnNeighbours.{highest-under, lowest-over}
+use Rattle.theory.proofs.Columns.{InColumn, Rises, HighestUnder, LowestOver, Kept}
 use Rattle.theory.proofs.Scale.{scaled, level, OneScale}
 use Rattle.theory.proofs.Scaling.{one-scale}
 use Rattle.theory.proofs.Drawn.{accepted-drawn, drawingOf}
-use Rattle.theory.proofs.DrawnRules.{drawn-kept}
+use Rattle.theory.proofs.DrawnRules.{drawn-kept, column-rises}
 use Rattle.theory.proofs.Places.{bottom-zone, top-zone, undrawn-first-is-last}
-use Rattle.theory.proofs.ColumnNames.{highest-under, lowest-over}
 use Rattle.theory.proofs.ColumnReadings.{ReadUnder, under-is-over, west-is-east}
-use Rattle.theory.proofs.SideViews.{SideView, view-plain, view-west}
+use Rattle.theory.proofs.SideViews.{SideView, by-view, view-plain, view-west}
 use Rattle.theory.proofs.Sights.{Sight, sight-of, sight-one, sight-computed, sight-read}
 
 -- what is so just where p < q is not so just where q <= p
@@ -44,13 +44,8 @@ module _ (s : Sheet) (a : Accepted s) where
     not-lower e f b c = rw (← v .half-line) (not-less _ _ _ (scale .lower-less line e f b c))
 
     -- at the abscissa of the view the edges stand, weakly, as on its half line
-    view-order : (e f : ℕ) → InColumn (drawingOf s) (v .column) e → InColumn (drawingOf s) (v .column) f → half e ≤ half f
-        → scaled s (2 * x) e ≤ scaled s (2 * x) f
-    view-order e f i j l =
-        ⊎-elim
-        (λ (p : v .column ≡ x). rw (← p) (kept .near (v .column) e f i j l))
-        (λ (p : v .column < x). let q : x ≡ suc (v .column) = omega (arith, v .beside .1) in rw q (kept .far (v .column) e f i j l))
-        (eq-or-lt-of-le (v .beside .0))
+    view-order : Rises (drawingOf s) (v .column) (scaled s (2 * x))
+    view-order = by-view s (λ c b. Rises (drawingOf s) c (scaled s (2 * b))) (λ eastern c w k. column-rises s (accepted-drawn s a) eastern c) v
 
     module _ (y : ℕ) where
       -- edge e has the cover and is under the point

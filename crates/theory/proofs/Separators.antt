@@ -5,33 +5,10 @@ use Prim.Native.Nat.{ℕ, zero, suc, _<_, _≤_}
 use native.Mathlib.Decide.{decLe}
 use native.Mathlib.Nat.{not-suc-le-zero, lt-suc-self, le-refl}
 use native.Mathlib.Omega.{arith}
-use Rattle.theory.proofs.ColumnNames.{has-top, highest-under, lowest-over, column-names-agree, bottom-name-one}
+use Rattle.theory.proofs.ColumnNames.{column-names-agree, bottom-name-one}
+use Rattle.theory.proofs.ColumnNeighbours.{has-top, lowest-over, next-down, bottom-or-next}
 use Rattle.theory.proofs.Columns.{Drawing, InColumn, NextInColumn, LowestOver, TopOf, BottomOf, Kept}
 use Rattle.theory.proofs.Flip.{flipped, flip-top, flip-kept}
-
-module _ (d : Drawing) where
-  pub has-bottom : (c e : ℕ) → InColumn d c e → (t : ℕ) × BottomOf d c t
-  has-bottom c e i =
-      let t = lowest-over d c (λ g. 1) 0 e i (lt-suc-self 0) in
-      (t .0, (t .1 .0 .0, λ g j. t .1 .1 g j (lt-suc-self 0)))
-
-  -- an edge f of a column with an edge e under it has a next one down, and that is not under e
-  next-down : (x e f : ℕ) → InColumn d x e → InColumn d x f → d .half x e < d .half x f
-      → (g : ℕ) × NextInColumn d x g f × (d .half x e ≤ d .half x g)
-  next-down x e f i j l =
-      let g = highest-under d x (d .half x) (d .half x f) e i l in
-      (g .0, ((g .1 .0 .0, j), (g .1 .0 .1, λ h c u v. omega (arith, g .1 .1 h c v))), g .1 .1 e i l)
-
-  -- an edge of a column is its bottom edge or has a next one down
-  bottom-or-next : (x f : ℕ) → InColumn d x f → BottomOf d x f ⊎ ((g : ℕ) × NextInColumn d x g f)
-  bottom-or-next x f j = go (has-bottom x f j)
-    where
-      go : (b : ℕ) × BottomOf d x b → BottomOf d x f ⊎ ((g : ℕ) × NextInColumn d x g f)
-      go (b, (i, least)) = under (decLe (d .half x f) (d .half x b))
-        where
-          under : Dec (d .half x f ≤ d .half x b) → BottomOf d x f ⊎ ((g : ℕ) × NextInColumn d x g f)
-          under (yes m) = inl (j, λ g c. omega (arith, least g c))
-          under (no m) = let g = next-down x b f i j (omega (arith, m)) in inr (g .0, g .1)
 
 module _ (d : Drawing) (k : Kept d) where
   -- a zone that is below some edge and above none is below the bottom edge of every column

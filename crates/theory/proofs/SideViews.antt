@@ -1,9 +1,10 @@
 -- The edges that cover an abscissa are those of one column beside it.
 use mathlib.Core.Path.{_≡_}
-use mathlib.Core.Logic.{inl, inr, _↔_}
+use mathlib.Core.Bool.{Bool, true, false}
+use mathlib.Core.Logic.{inl, inr, ⊎-elim, _↔_}
 use Prim.Native.Nat.{ℕ, suc, _+_, _*_, _-_, _<_, _≤_}
 use native.Mathlib.Decide.{decLt}
-use native.Mathlib.Nat.{le-refl}
+use native.Mathlib.Nat.{le-refl, eq-or-lt-of-le}
 use native.Mathlib.Omega.{arith}
 use borrow.Author.Tests.{lt-ltb, le-ltb}
 use Rattle.subdivision.specs.Formula.{Formula, Means}
@@ -12,6 +13,7 @@ use Rattle.subdivision.specs.Lines.{covers, coversWest}
 use Rattle.subdivision.specs.Accepted.{Accepted}
 use Rattle.subdivision.specs.Reading.{readingLine}
 use Rattle.subdivision.specs.Placed.{Covers, CoversWest}
+use Rattle.theory.proofs.ColumnFans.{fanSide}
 
 -- the edges with a cover of the abscissa x are those that cross a column beside it, and a line is the column's half line
 pub record SideView (s : Sheet) (x : ℕ) (cover : ℕ → Formula) (line : ℕ) : Type 0 where
@@ -22,6 +24,15 @@ pub record SideView (s : Sheet) (x : ℕ) (cover : ℕ → Formula) (line : ℕ)
   pub crosses : (e : ℕ) → e < edgeCount s → Means (cover e) ↔ ((xOf s (westOf s e) ≤ column) × (column < xOf s (eastOf s e)))
 
 module _ (s : Sheet) where
+  -- what is so of every column between the margins with each of its two abscissas is so of a view's column with the abscissa viewed
+  pub by-view : (P : ℕ → ℕ → Type 0) → ((eastern : Bool) (c : ℕ) → westMargin s ≤ c → c < eastMargin s → P c (fanSide eastern c))
+      → {x line : ℕ} {cover : ℕ → Formula} (v : SideView s x cover line) → P (v .column) x
+  by-view P f {x} v =
+      ⊎-elim
+      (λ (i : v .column ≡ x). rw (← i) (f true (v .column) (v .inside .0) (v .inside .1)))
+      (λ (l : v .column < x). let i : x ≡ suc (v .column) = omega (arith, v .beside .1) in rw i (f false (v .column) (v .inside .0) (v .inside .1)))
+      (eq-or-lt-of-le (v .beside .0))
+
   -- the western reading views the column on the west
   pub view-west : (x : ℕ) → westMargin s < x → x ≤ eastMargin s → SideView s x (λ e. coversWest (segment s e) x) (2 * x - 1)
   view-west x l h =

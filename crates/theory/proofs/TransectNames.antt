@@ -2,7 +2,7 @@
 use mathlib.Core.Path.{_≡_, refl, sym, ap, _∙_}
 use mathlib.Core.Bool.{Bool, true, false}
 use mathlib.Core.Logic.{_⊎_, inl, inr}
-use Prim.Native.Nat.{ℕ, _+_, _*_, _<_, _≤_}
+use Prim.Native.Nat.{ℕ, _*_, _<_, _≤_}
 use Rattle.subdivision.specs.Sheet.{Sheet, westMargin, eastMargin, edgeCount, xOf, aboveOf, belowOf}
 use Rattle.subdivision.specs.Accepted.{Highest, Lowest}
 use Rattle.theory.proofs.Beside.{lineBeside}
@@ -10,7 +10,7 @@ use Rattle.theory.proofs.ColumnFans.{fanSide, top-of-fan, bottom-of-fan
 use Rattle.theory.proofs.ColumnNames.{column-names-agree}
 use Rattle.theory.proofs.Columns.{TopThere, BottomThere, TopOf, BottomOf, NextInColumn, Kept}
 use Rattle.theory.proofs.Drawn.{Drawn, drawingOf}
-use Rattle.theory.proofs.DrawnRules.{drawn-kept}
+use Rattle.theory.proofs.DrawnRules.{drawn-kept, column-rises}
 use Rattle.theory.proofs.FanOrder.{endOf, fan-order}
 use Rattle.theory.proofs.Meetings.{has-top-there, has-bottom-there, next-meeting, top-meeting, bottom-meeting}
 use Rattle.theory.proofs.Nodes.{AtNode, lower-by-edges, by-column, at-is-through, edge-at, node-at}
@@ -70,12 +70,6 @@ module _ (s : Sheet) (a : Drawn s) where
 
   -- ---- beside a column
 
-  -- the edges of a column stand at both its abscissas as on its half line, weakly
-  pub rises : (eastern : Bool) (c e f : ℕ) → Crosses s c e → Crosses s c f → scaled s (2 * c + 1) e ≤ scaled s (2 * c + 1) f
-      → scaled s (2 * fanSide eastern c) e ≤ scaled s (2 * fanSide eastern c) f
-  rises true = kept .near
-  rises false = kept .far
-
   -- a column, and the transect beside it where its eastern fans are, or where its western ones are
   module _ (eastern : Bool) (c : ℕ) where
     abbrev here : ℕ
@@ -97,14 +91,14 @@ module _ (s : Sheet) (a : Drawn s) where
     has-top-at : westMargin s ≤ c → c < eastMargin s → (p : Node) → OnTransect s here p → (e : ℕ) × TopAt p e
     has-top-at w k p o =
         let f = edge-at s a eastern c w k p o in
-        let e = has-top-there (drawingOf s) c height (rises eastern c) (f .0) (f .1) in
+        let e = has-top-there (drawingOf s) c height (column-rises s a eastern c) (f .0) (f .1) in
         (e .0, (e .1, (o, e .2 ∙ f .2 .1)))
 
     -- and a bottom edge
     has-bottom-at : westMargin s ≤ c → c < eastMargin s → (p : Node) → OnTransect s here p → (e : ℕ) × BottomAt p e
     has-bottom-at w k p o =
         let f = edge-at s a eastern c w k p o in
-        let e = has-bottom-there (drawingOf s) c height (rises eastern c) (f .0) (f .1) in
+        let e = has-bottom-there (drawingOf s) c height (column-rises s a eastern c) (f .0) (f .1) in
         (e .0, (e .1, (o, e .2 ∙ f .2 .1)))
 
     -- the zone above the top edge at a node is over the node
@@ -124,7 +118,7 @@ module _ (s : Sheet) (a : Drawn s) where
     -- the top edge at a node and the bottom edge at the next node up are neighbours
     next-at : (p q : Node) (e f : ℕ) → NextNode s here p q → TopAt p e → BottomAt q f → NextInColumn (drawingOf s) c e f
     next-at p q e f n (t, o) (b, r) =
-        next-meeting (drawingOf s) c height (rises eastern c) e f t b (lower-by-edges s a here p q e f o r .0 (n .1 .0)) between
+        next-meeting (drawingOf s) c height (column-rises s a eastern c) e f t b (lower-by-edges s a here p q e f o r .0 (n .1 .0)) between
       where
         between : (g : ℕ) → Crosses s c g → height e < height g → height g < height f → ⊥
         between g i l m =
@@ -133,14 +127,14 @@ module _ (s : Sheet) (a : Drawn s) where
 
     -- the top edge at the highest node is the top of the column
     top-at-highest : (p : Node) (e : ℕ) → NoneHigher s here p → TopAt p e → TopOf (drawingOf s) c e
-    top-at-highest p e none (t, o) = top-meeting (drawingOf s) c height (rises eastern c) e t none-over
+    top-at-highest p e none (t, o) = top-meeting (drawingOf s) c height (column-rises s a eastern c) e t none-over
       where
         none-over : (g : ℕ) → Crosses s c g → height e < height g → ⊥
         none-over g i l = let u = node-at s a eastern c g i in none (u .0) (u .1 .0) (lower-by-edges s a here p (u .0) e g o (u .1) .1 l)
 
     -- the bottom edge at the lowest node is the bottom of the column
     bottom-at-lowest : (p : Node) (e : ℕ) → NoneLower s here p → BottomAt p e → BottomOf (drawingOf s) c e
-    bottom-at-lowest p e none (b, o) = bottom-meeting (drawingOf s) c height (rises eastern c) e b none-under
+    bottom-at-lowest p e none (b, o) = bottom-meeting (drawingOf s) c height (column-rises s a eastern c) e b none-under
       where
         none-under : (g : ℕ) → Crosses s c g → height g < height e → ⊥
         none-under g i l = let u = node-at s a eastern c g i in none (u .0) (u .1 .0) (lower-by-edges s a here (u .0) p g e (u .1) o .1 l)

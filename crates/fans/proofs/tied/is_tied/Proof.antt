@@ -8,7 +8,7 @@ use borrow.Author.Tests.{ne-eqb}
 use Rattle.subdivision.specs.Sheet.{edgeAbove, edgeBelow}
 use Rattle.theory.proofs.Decide.{held}
 use Rattle.fans.specs.Fans.{tied}
-use Rattle.fans.proofs.Choices.{second-choice}
+use Rattle.theory.proofs.Choices.{second-choice}
 use Rattle.fans.proofs.tied.is_tied.Statement.{statement}
 use Rattle.fans.proofs.tied.is_tied.Tie as tie
 

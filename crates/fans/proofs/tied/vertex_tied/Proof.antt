@@ -6,7 +6,7 @@ use borrow.Author.Tests.{not-true, not-false}
 use Rattle.subdivision.specs.Formula.{both, holds}
 use Rattle.theory.proofs.Decide.{means, held, denies, fails}
 use Rattle.fans.specs.Fans.{fanTied, fansTied, vertexTied}
-use Rattle.fans.proofs.Choices.{first-choice}
+use Rattle.theory.proofs.Choices.{first-choice}
 use Rattle.fans.proofs.tied.vertex_tied.Statement.{statement}
 use Rattle.fans.proofs.tied.vertex_tied.Tie as tie
 
