@@ -1,5 +1,5 @@
 ghost use mathlib.Core.Path.{_≡_};
-ghost use Rattle.subdivision.specs.Dyadic.{bits, topBit, lca};
+ghost use Rattle.subdivision.specs.Dyadic.{bits, topBit, lowBit, lca};
 
 // The bit length of k: document 01, bits(k).
 pub fn bit_length(k: u32) -> u32
@@ -36,4 +36,14 @@ pub fn lca(i: u32, j: u32) -> u32
         return j;
     }
     2 * lca(i / 2, j / 2)
+}
+
+// The lowest set bit of k, and 0 for 0.
+pub fn low_bit(k: u32) -> u32
+    ensures { λ r. ⌜ r ≡ lowBit k ⌝ }
+{
+    if k == 0 {
+        return 0;
+    }
+    k - (k & (k - 1))
 }

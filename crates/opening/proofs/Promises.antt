@@ -1,5 +1,6 @@
 -- What opening promises, from the judgement of its refusals and the words it leaves.
 use mathlib.Core.Path.{_≡_, refl, sym, ap, _∙_, subst}
+use mathlib.Core.Bool.{false≢true}
 use mathlib.Core.List.{List, _∷_}
 use mathlib.Core.Logic.{_↔_}
 use Prim.Native.Nat.{ℕ, _<_, _≤_}
@@ -13,11 +14,13 @@ use Rattle.subdivision.specs.Refusals.{judged, limitRefusals, roomRefusal, rule
 use Rattle.subdivision.specs.Faults.{GivenBy, openingRefusals, tableRefusals}
 use Rattle.subdivision.specs.Accepted.{Accepted}
 use Rattle.subdivision.specs.Index.{indexWords}
+use Rattle.subdivision.specs.Engine.{HoldsIndex}
 use Rattle.subdivision.specs.Calls.{opening}
 use Rattle.theory.proofs.Decide.{held, fails}
 use Rattle.theory.proofs.Judgement.{refused-first, passed-first, none-named}
 use Rattle.theory.proofs.Faults.{opened-exactly, refused-exactly}
 use Rattle.theory.proofs.Chains.{index-length, accepted-line, accepted-above, accepted-west}
+use Rattle.theory.proofs.HeldIndex.{written-holds}
 
 module _ (s : Sheet) (index : List ℕ) where
   -- the promises of a verdict and the words left, in the order of the contract
@@ -28,7 +31,8 @@ module _ (s : Sheet) (index : List ℕ) where
       × (((v ≡ Verdict.Passed) ↔ (Accepted s × (indexNeed (zoneCount s) (edgeCount s) ≤ length index)))
       × (((number item : ℕ) → (v ≡ Verdict.Refused number item) ↔ GivenBy (openingRefusals s (length index)) number item)
       × ((v ≡ Verdict.Passed → (left ≡ put (indexWords s) index) × (length (indexWords s) ≡ indexNeed (zoneCount s) (edgeCount s)))
-      × ((number item : ℕ) → v ≡ Verdict.Refused number item → left ≡ index)))))
+      × (((number item : ℕ) → v ≡ Verdict.Refused number item → left ≡ index)
+      × (v ≡ Verdict.Passed → HoldsIndex s left))))))
 
   -- a verdict, as the rules' statements
   says : (v : Verdict) → judged (openingRefusals s (length index)) ≡ v
@@ -42,7 +46,7 @@ module _ (s : Sheet) (index : List ℕ) where
   pub refusal-promised : (number item : ℕ) → judged (openingRefusals s (length index)) ≡ Verdict.Refused number item → Promised (Verdict.Refused number item) index
   unfolding opening
   refusal-promised number item e =
-      (rw (e, opening), (rw (e, opening), (told .0, (told .1, (λ p. let never : _≡_ {A = ℕ} 0 1 = cc in absurd (omega arith), λ n i p. refl)))))
+      (rw (e, opening), (rw (e, opening), (told .0, (told .1, (λ p. absurd (false≢true cc), (λ n i p. refl, λ p. absurd (false≢true cc)))))))
     where
       told : ((Verdict.Refused number item ≡ Verdict.Passed) ↔ (Accepted s × (indexNeed (zoneCount s) (edgeCount s) ≤ length index)))
           × ((n i : ℕ) → (Verdict.Refused number item ≡ Verdict.Refused n i) ↔ GivenBy (openingRefusals s (length index)) n i)
@@ -52,7 +56,7 @@ module _ (s : Sheet) (index : List ℕ) where
   pub opened-promised : (left : List ℕ) → judged (openingRefusals s (length index)) ≡ Verdict.Passed → left ≡ put (indexWords s) index → Promised Verdict.Passed left
   unfolding opening
   opened-promised left e w =
-      (rw (e, opening), (w ∙ rw (e, opening), (told .0, (told .1, (λ p. (w, long), λ n i p. let never : _≡_ {A = ℕ} 0 1 = cc in absurd (omega arith))))))
+      (rw (e, opening), (w ∙ rw (e, opening), (told .0, (told .1, (λ p. (w, long), (λ n i p. absurd (false≢true cc), λ p. subst (HoldsIndex s) (sym w) (written-holds s a index)))))))
     where
       told : ((Verdict.Passed ≡ Verdict.Passed) ↔ (Accepted s × (indexNeed (zoneCount s) (edgeCount s) ≤ length index)))
           × ((n i : ℕ) → (Verdict.Passed ≡ Verdict.Refused n i) ↔ GivenBy (openingRefusals s (length index)) n i)

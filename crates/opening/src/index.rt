@@ -5,6 +5,9 @@ use geometry::tables::vertex_x;
 use geometry::tables::word;
 use numbers::dyadic::lca;
 use numbers::groups;
+use numbers::layout::entry_word;
+use numbers::layout::start_word;
+use numbers::layout::zone_word;
 use numbers::order::sort;
 use numbers::words::write;
 use subdivision::MAX_EDGES;
@@ -24,14 +27,6 @@ ghost use Rattle.subdivision.specs.ZoneLine.{position};
 ghost use Rattle.theory.proofs.Groups.{groupStart};
 ghost use Rattle.opening.specs.Keys.{placedKey};
 ghost use Rattle.opening.specs.Packed.{packed};
-
-// The words that the index of n zones and m edges needs.
-pub fn need(n: usize, m: usize) -> usize
-    requires { ⌜ (n ≤ maxZones) × (m ≤ maxEdges) ⌝ }
-    ensures { λ r. ⌜ r ≡ indexNeed n m ⌝ }
-{
-    3 * n + m + 1
-}
 
 // Writes the index of the tables and a line of their zones to the front of `index`; what is past it stays.
 pub fn write_index(vertices: &[i32], edges: &[u32], line: &[u32], index: &mut [u32])
@@ -102,12 +97,14 @@ fn store(table: &mut [u32], at: u32, word: u32)
 
 // Writes the four parts of the index to its front, one after the other.
 fn parts(place: &[u32], line: &[u32], starts: &[u32], entries: &[u32], index: &mut [u32])
-    requires { ⌜ ((length (now place) ≡ length (now line)) × (length (now starts) ≡ suc (length (now line)))) × (indexNeed (length (now line)) (length (now entries)) ≤ length (now index)) ⌝ }
+    requires { ⌜ (length (now line) ≤ maxZones) × (indexNeed (length (now line)) (length (now entries)) ≤ length (now index)) ⌝ }
+    requires { ⌜ (length (now place) ≡ length (now line)) × (length (now starts) ≡ suc (length (now line))) ⌝ }
     ensures { λ _. ⌜ now (index .exit) ≡ put (now (place .entry) ++ (now (line .entry) ++ (now (starts .entry) ++ now (entries .entry)))) (now (index .entry)) ⌝ }
 {
-    let zones_at = line.len();
-    let starts_at = 2 * line.len();
-    let entries_at = 3 * line.len() + 1;
+    let n = line.len() as u32;
+    let zones_at = zone_word(n, 0);
+    let starts_at = start_word(n, 0);
+    let entries_at = entry_word(n, 0);
     write(place, index, 0);
     write(line, index, zones_at);
     write(starts, index, starts_at);

@@ -1,4 +1,5 @@
 // Opening a sheet: the judgement, then the index.
+use numbers::layout;
 use subdivision::MAX_ZONES;
 use subdivision::Verdict;
 ghost use mathlib.Core.Path.{_≡_};
@@ -12,6 +13,7 @@ ghost use Rattle.subdivision.specs.Sheet.{sheetOf};
 ghost use Rattle.subdivision.specs.Faults.{GivenBy, openingRefusals};
 ghost use Rattle.subdivision.specs.Accepted.{Accepted};
 ghost use Rattle.subdivision.specs.Index.{indexWords};
+ghost use Rattle.subdivision.specs.Engine.{HoldsIndex};
 ghost use Rattle.subdivision.specs.Calls.{opening};
 
 mod index;
@@ -31,12 +33,13 @@ pub fn open_sheet(
     ensures refused { λ r. ⌜ ((number item : ℕ) → (r ≡ Verdict.Refused number item) ↔ GivenBy (openingRefusals (sheetOf west east (now (vertices .entry)) (now (edges .entry)) zones) (length (now (index .entry)))) number item) ⌝ }
     ensures written { λ r. ⌜ (r ≡ Verdict.Passed → (now (index .exit) ≡ put (indexWords (sheetOf west east (now (vertices .entry)) (now (edges .entry)) zones)) (now (index .entry))) × (length (indexWords (sheetOf west east (now (vertices .entry)) (now (edges .entry)) zones)) ≡ indexNeed zones (length (now (edges .entry)) / 4))) ⌝ }
     ensures untouched { λ r. ⌜ ((number item : ℕ) → r ≡ Verdict.Refused number item → now (index .exit) ≡ now (index .entry)) ⌝ }
+    ensures indexed { λ r. ⌜ (r ≡ Verdict.Passed → HoldsIndex (sheetOf west east (now (vertices .entry)) (now (edges .entry)) zones) (now (index .exit))) ⌝ }
 {
     match sheet::limits(west, east, vertices, edges, zones) {
         Verdict::Refused(number, item) => return Verdict::Refused(number, item),
         Verdict::Passed => {}
     }
-    if index.len() < index::need(zones as usize, edges.len() / 4) {
+    if index.len() < layout::need(zones as usize, edges.len() / 4) {
         return Verdict::Refused(3, 0);
     }
     let mut line = [0u32; MAX_ZONES];

@@ -1,7 +1,7 @@
 // The plain reading of a point: the tables are judged, and then every vertex and every edge is looked at. It needs no index.
-use crate::points::on_sheet;
 use crate::points::place;
 use geometry::tables::shifted;
+use records::vertices::on_sheet;
 use subdivision::Answer;
 use subdivision::MAX_ZONES;
 use subdivision::Verdict;

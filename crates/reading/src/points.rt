@@ -3,7 +3,6 @@ use geometry::lines::side;
 use geometry::tables::segment;
 use geometry::tables::vertex_x;
 use geometry::tables::vertex_y;
-use records::vertices::in_range;
 use subdivision::Answer;
 use subdivision::Segment;
 use subdivision::Side;
@@ -11,23 +10,9 @@ ghost use mathlib.Core.Path.{_≡_};
 ghost use Prim.Native.Nat.{_≤_, _/_};
 ghost use lib.ListN.{length};
 ghost use Rattle.subdivision.specs.Limits.{maxVertices, maxEdges};
-ghost use Rattle.subdivision.specs.Formula.{both, isAtMost, holds};
+ghost use Rattle.subdivision.specs.Formula.{holds};
 ghost use Rattle.subdivision.specs.Lines.{isOn};
-ghost use Rattle.subdivision.specs.Rules.{inRange};
 ghost use Rattle.reading.specs.Scans.{vertexAt, edgeOn, placed};
-
-// Whether a point is on the sheet: between the margins and y in range; all four numbers are shifted.
-pub fn on_sheet(west: u32, east: u32, x: u32, y: u32) -> bool
-    ensures { λ r. ⌜ r ≡ holds (both (both (isAtMost west x) (isAtMost x east)) (inRange y)) ⌝ }
-{
-    if x < west {
-        return false;
-    }
-    if east < x {
-        return false;
-    }
-    in_range(y)
-}
 
 // The lowest vertex that is the point; their number where none is.
 fn vertex_at(vertices: &[i32], x: u32, y: u32) -> u32

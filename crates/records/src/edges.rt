@@ -27,7 +27,7 @@ pub fn first_misnamed(vertices: &[i32], edges: &[u32], zones: u32, count: u32) -
 }
 
 // Whether edge e names vertices and zones that exist.
-fn edge_names(vertices: &[i32], edges: &[u32], zones: u32, e: u32) -> bool
+pub fn edge_names(vertices: &[i32], edges: &[u32], zones: u32, e: u32) -> bool
     ensures { λ r. ⌜ r ≡ holds (edgeNames (sheetOf (pos 0) (pos 0) (now (vertices .entry)) (now (edges .entry)) zones) e) ⌝ }
 {
     let n = vertices.len() / 2;

@@ -37,7 +37,7 @@ pub fn first_outside(west: i32, east: i32, vertices: &[i32], count: u32) -> u32
 }
 
 // Whether a point is in range, and between the margins; all four numbers are shifted.
-fn point_inside(west: u32, east: u32, x: u32, y: u32) -> bool
+pub fn point_inside(west: u32, east: u32, x: u32, y: u32) -> bool
     ensures { λ r. ⌜ r ≡ holds (both (both (inRange x) (inRange y)) (both (isAtMost west x) (isAtMost x east))) ⌝ }
 {
     if !in_range(x) {
@@ -60,6 +60,19 @@ pub fn in_range(c: u32) -> bool
         return false;
     }
     c <= HIGHEST
+}
+
+// Whether a point is on the sheet: between the margins and y in range; all four numbers are shifted.
+pub fn on_sheet(west: u32, east: u32, x: u32, y: u32) -> bool
+    ensures { λ r. ⌜ r ≡ holds (both (both (isAtMost west x) (isAtMost x east)) (inRange y)) ⌝ }
+{
+    if x < west {
+        return false;
+    }
+    if east < x {
+        return false;
+    }
+    in_range(y)
 }
 
 // Refusal 9: the lowest vertex that breaks rule 3; their number where none does.

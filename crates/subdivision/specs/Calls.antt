@@ -1,17 +1,16 @@
 -- The three calls, each with its refusals in order: document 01, "Why the desk refuses".
 use mathlib.Core.Bool.{true, false}
 use mathlib.Core.List.{List, [], _∷_, _++_}
-use Prim.Native.Nat.{ℕ, _-_}
+use Prim.Native.Nat.{ℕ}
 use lib.IntN.{ℤ}
 use lib.ListN.{length}
 use Rattle.subdivision.specs.declared.Answer.{Answer}
 use Rattle.subdivision.specs.declared.Verdict.{Verdict}
 use Rattle.subdivision.specs.declared.Verdict.the-variants.{Passed, Refused}
 use Rattle.subdivision.specs.declared.Found.{Found}
-use Rattle.subdivision.specs.Formula.{Formula, isAtMost, holds}
-use Rattle.subdivision.specs.Dyadic.{bits}
-use Rattle.subdivision.specs.Sheet.{Sheet, zoneCount, shifted}
-use Rattle.subdivision.specs.Refusals.{judged, limitRefusals, roomRefusal, ruleRefusals}
+use Rattle.subdivision.specs.Formula.{holds}
+use Rattle.subdivision.specs.Sheet.{Sheet, shifted}
+use Rattle.subdivision.specs.Refusals.{judged, limitRefusals, roomRefusal, ruleRefusals, trailRoom}
 use Rattle.subdivision.specs.Reading.{onSheet, plainReading}
 use Rattle.subdivision.specs.Index.{indexWords}
 use Rattle.subdivision.specs.Lists.{put}
@@ -52,10 +51,6 @@ module _ (s : Sheet) where
             elim (holds (onSheet s (shifted x) (shifted y))) [ false ↦ Answer.Refused 20 0 | true ↦ plainReading s (shifted x) (shifted y) ]
       ]
 
-  -- refusal 21: the trail has room for bits(n-1) edges
-  abbrev pub trailRoom : ℕ → Formula
-  trailRoom places = isAtMost (bits (zoneCount s - 1)) places
-
   -- the descent's last turn as a search's result; refusal 22 where it is damaged
   abbrev pub searchEnded : Turn → List ℕ → Searched
   searchEnded (onward d) trail = searchRefused 22 0 trail
@@ -71,7 +66,7 @@ module _ (s : Sheet) where
             elim (holds (onSheet s (shifted x) (shifted y))) [
               | false ↦ searchRefused 20 0 trail
               | true ↦
-                  elim (holds (trailRoom (length trail))) [
+                  elim (holds (trailRoom s (length trail))) [
                     | false ↦ searchRefused 21 0 trail
                     | true ↦
                         searchEnded (indexDescent s index (shifted x) (shifted y)) trail

@@ -8,6 +8,8 @@ use Rattle.subdivision.specs.declared.Answer.{Answer}
 use Rattle.subdivision.specs.declared.Answer.the-variants.{Vertex, Edge, Zone}
 use Rattle.subdivision.specs.declared.Look.{Look}
 use Rattle.subdivision.specs.declared.Look.the-variants.{Faulty, West, Covering, Beyond}
+use Rattle.subdivision.specs.declared.Probed.{Probed}
+use Rattle.subdivision.specs.declared.Probed.the-variants.{Covered, Missing}
 use Rattle.subdivision.specs.declared.Side.the-variants.{Below, On, Above}
 use Rattle.subdivision.specs.Formula.{Formula, isLess, isAtMost, both, notSo, holds}
 use Rattle.subdivision.specs.Dyadic.{topBit, lowBit}
@@ -40,22 +42,27 @@ pub data Turn : Type 0 where
   answered : Answer → Descent → Turn
   damaged : Turn
 
--- what the probes of a chain lead to: the covering edge and the probes made, or none
-pub data Probed : Type 0 where
-  covered : ℕ → ℕ → Probed
-  missing : Probed
+-- 0 where a descent ends with an answer, and otherwise 1
+abbrev pub damages : Turn → ℕ
+damages (onward d) = 1
+damages (answered a d) = 0
+damages damaged = 1
 
 -- a judged look-up breaks what it should keep
 abbrev pub breaks : LookUps → Formula → Bool
 breaks w kept = elim (w .judging) [ true ↦ holds (notSo kept) | false ↦ false ]
 
-module _ (s : Sheet) (w : LookUps) (x y : ℕ) where
-  -- refusal 22: a probed entry is an edge, and its record, its vertices included, is not at fault under 4, 6 or 7
-  abbrev pub entrySound : ℕ → Formula
-  entrySound e =
-      both (isLess e (edgeCount s))
-      (both (edgeNames s e) (both (both (vertexInside s (westOf s e)) (vertexInside s (eastOf s e))) (edgeRuns s e)))
+-- a descent begins at i = 0, j = n - 1, k = the top bit of n - 1
+abbrev pub start : Sheet → Descent
+start s = record { i = 0; j = zoneCount s - 1; k = topBit (zoneCount s - 1); trail = []; probes = 0 }
 
+-- refusal 22: a probed entry is an edge, and its record, its vertices included, is not at fault under 4, 6 or 7
+abbrev pub entrySound : Sheet → ℕ → Formula
+entrySound s e =
+    both (isLess e (edgeCount s))
+    (both (edgeNames s e) (both (both (vertexInside s (westOf s e)) (vertexInside s (eastOf s e))) (edgeRuns s e)))
+
+module _ (s : Sheet) (w : LookUps) (x y : ℕ) where
   -- refusal 22: the start of a chain to be examined and the next start are at most m, and not the wrong way round
   abbrev pub startsSound : ℕ → Formula
   startsSound k =
@@ -70,7 +77,7 @@ module _ (s : Sheet) (w : LookUps) (x y : ℕ) where
   -- one look at entry e: x < western x, x beyond the covered part, or otherwise that edge covers
   abbrev pub look : ℕ → Look
   look e =
-      elim (breaks w (entrySound e)) [
+      elim (breaks w (entrySound s e)) [
         | true ↦ Faulty
         | false ↦
             elim (ltb x (segment s e .xw)) [
@@ -82,15 +89,15 @@ module _ (s : Sheet) (w : LookUps) (x y : ℕ) where
 
   -- the entries from lo to before hi are probed in the middle, rounded down, within so many probes; each look is one probe
   abbrev pub probe : ℕ → ℕ → ℕ → ℕ → Probed
-  probe zero lo hi probes = missing
+  probe zero lo hi probes = Missing
   probe (suc fuel) lo hi probes =
       elim (ltb lo hi) [
-        | false ↦ missing
+        | false ↦ Missing
         | true ↦
             elim (look (w .entry ((lo + hi) / 2))) [
-              | Faulty ↦ missing
+              | Faulty ↦ Missing
               | West ↦ probe fuel lo ((lo + hi) / 2) (suc probes)
-              | Covering ↦ covered (w .entry ((lo + hi) / 2)) (suc probes)
+              | Covering ↦ Covered (w .entry ((lo + hi) / 2)) (suc probes)
               | Beyond ↦ probe fuel ((lo + hi) / 2 + 1) hi (suc probes)
             ]
       ]
@@ -127,7 +134,7 @@ module _ (s : Sheet) (w : LookUps) (x y : ℕ) where
       elim (breaks w (startsSound (d .k))) [
         | true ↦ damaged
         | false ↦
-            elim (probe (w .start (d .k + 1)) (w .start (d .k)) (w .start (d .k + 1)) (d .probes)) [ covered e probes ↦ examined d e probes | missing ↦ damaged ]
+            elim (probe (w .start (d .k + 1)) (w .start (d .k)) (w .start (d .k + 1)) (d .probes)) [ Covered e probes ↦ examined d e probes | Missing ↦ damaged ]
       ]
 
   -- k goes to a son
@@ -156,9 +163,9 @@ module _ (s : Sheet) (w : LookUps) (x y : ℕ) where
   turns zero d = damaged
   turns (suc fuel) d = elim (turn d) [ onward next ↦ turns fuel next | answered a last ↦ answered a last | damaged ↦ damaged ]
 
-  -- the descent from i = 0, j = n - 1, k = the top bit of n - 1
+  -- the descent from its beginning
   unfoldable pub descent : Turn
-  descent = turns (2 * zoneCount s) (record { i = 0; j = zoneCount s - 1; k = topBit (zoneCount s - 1); trail = []; probes = 0 })
+  descent = turns (2 * zoneCount s) (start s)
 
 -- the look-ups made from the tables alone: nothing is judged
 abbrev pub tableLookUps : Sheet → LookUps

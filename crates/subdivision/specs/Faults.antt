@@ -3,10 +3,12 @@ use mathlib.Core.Path.{_≡_}
 use mathlib.Core.List.{List, [], _∷_, _++_}
 use mathlib.Core.Logic.{_⊎_}
 use Prim.Native.Nat.{ℕ, _<_}
-use Rattle.subdivision.specs.Formula.{Formula, Means}
+use lib.ListN.{length}
+use Rattle.subdivision.specs.Formula.{Formula, isEqual, Means}
 use Rattle.subdivision.specs.Sheet.{Sheet}
-use Rattle.subdivision.specs.Refusals.{Refusal, unnamed, limitRefusals, roomRefusal, ruleRefusals}
+use Rattle.subdivision.specs.Refusals.{Refusal, unnamed, limitRefusals, roomRefusal, ruleRefusals, trailRoom}
 use Rattle.subdivision.specs.Reading.{onSheet}
+use Rattle.subdivision.specs.Descent.{damages, indexDescent}
 
 -- the named item breaks the clause, and no lower one does
 pub record LowestFault (clause : ℕ → Formula) (items item : ℕ) : Type 0 where
@@ -38,3 +40,13 @@ tableRefusals s = limitRefusals s ++ ruleRefusals s
 -- the lines of the table that the plain reading checks, in order: 1, 2, 4 to 13, 20
 abbrev pub readingRefusals : Sheet → ℕ → ℕ → List Refusal
 readingRefusals s x y = tableRefusals s ++ (unnamed 20 (onSheet s x y) ∷ [])
+
+-- the lines of the table that the quick search checks, in order: 1, 2, 3, 20, 21, and 22 as it goes, which is given where the descent over the words of the index ends without an answer
+abbrev pub searchRefusals : Sheet → List ℕ → ℕ → ℕ → ℕ → List Refusal
+searchRefusals s index x y places =
+    limitRefusals s
+    ++ (roomRefusal s (length index)
+    ∷ unnamed 20 (onSheet s x y)
+    ∷ unnamed 21 (trailRoom s places)
+    ∷ unnamed 22 (isEqual (damages (indexDescent s index x y)) 0)
+    ∷ [])

@@ -1,13 +1,14 @@
--- Why a sheet is refused: document 01, "Why the desk refuses", lines 1 to 13 of its table.
+-- Why a sheet is refused: document 01, "Why the desk refuses", lines 1 to 13 of its table, and the room that line 21 asks for.
 use mathlib.Core.Bool.{true, false, not}
 use mathlib.Core.List.{List, [], _∷_}
-use Prim.Native.Nat.{ℕ, _%_}
+use Prim.Native.Nat.{ℕ, _-_, _%_}
 use lib.ListN.{length}
 use Rattle.subdivision.specs.declared.Verdict.{Verdict}
 use Rattle.subdivision.specs.declared.Verdict.the-variants.{Passed, Refused}
 use Rattle.subdivision.specs.Limits.{maxVertices, maxEdges, maxZones}
 use Rattle.subdivision.specs.Formula.{Formula, isLess, isAtMost, isEqual, both, notSo, everyBelow, holds}
 use Rattle.subdivision.specs.Lowest.{lowest}
+use Rattle.subdivision.specs.Dyadic.{bits}
 use Rattle.subdivision.specs.Layout.{indexNeed}
 use Rattle.subdivision.specs.Sheet.{Sheet, westMargin, eastMargin, vertexCount, edgeCount, zoneCount}
 use Rattle.subdivision.specs.Rules.{inRange, vertexInside, vertexNew, edgeNames, edgeRuns, zonesDiffer, vertexRegular, edgeClear, namesAgree, zoneNamed}
@@ -56,6 +57,10 @@ module _ (s : Sheet) where
   -- refusal 3: the index has room
   abbrev pub roomRefusal : ℕ → Refusal
   roomRefusal words = unnamed 3 (isAtMost (indexNeed (zoneCount s) (edgeCount s)) words)
+
+  -- refusal 21: the trail has room for bits(n-1) edges
+  abbrev pub trailRoom : ℕ → Formula
+  trailRoom places = isAtMost (bits (zoneCount s - 1)) places
 
   -- refusal 13: rule 7 can't be kept; names the lowest zone with a circle at it or below it
   abbrev pub circleRefusal : Refusal

@@ -9,6 +9,9 @@ pub const MAX_EDGES: usize = 2048;
 // At most so many zones.
 pub const MAX_ZONES: usize = 1024;
 
+// A search examines at most so many edges: the bit length of MAX_ZONES - 1.
+pub const MAX_EXAMINED: usize = 10;
+
 // The lowest coordinate, shifted.
 pub const LOWEST: u32 = 2146483648;
 
@@ -55,6 +58,14 @@ pub enum Look {
     Covering,
     // The abscissa is beyond the part that the edge covers.
     Beyond,
+}
+
+// What the probes of a chain lead to.
+pub enum Probed {
+    // The covering edge, and the probes made so far.
+    Covered(u32, u32),
+    // No covering edge, or an entry at fault.
+    Missing,
 }
 
 // An edge with its ends: the numbers of its two vertices, and their coordinates, shifted.

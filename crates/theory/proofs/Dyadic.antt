@@ -13,7 +13,7 @@ use lib.Bits.{bitXor, xor-step, xor-self, xor-shr, xor-add-and, and-le-l}
 use lib.Dec.{leb, eqb}
 use Rattle.subdivision.specs.Dyadic.{bitsIn, bits, topBitIn, topBit, lowBitIn, lowBit, lcaIn, lca}
 
-le-or-lt : (a b : ℕ) → (a ≤ b) ⊎ (b < a)
+pub le-or-lt : (a b : ℕ) → (a ≤ b) ⊎ (b < a)
 le-or-lt zero b = inl zero-le
 le-or-lt (suc a) zero = inr (suc-le-suc zero-le)
 le-or-lt (suc a) (suc b) = ⊎-elim (λ p. inl (suc-le-suc p)) (λ q. inr (suc-le-suc q)) (le-or-lt a b)

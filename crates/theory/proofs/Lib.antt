@@ -1,5 +1,7 @@
 -- Laws of the definitions of `subdivision`, a file a subject.
 pub mod Beside
+pub mod Blocks
+pub mod ChainCovers
 pub mod Chains
 pub mod Choices
 pub mod Circles
@@ -12,17 +14,22 @@ pub mod Columns
 pub mod Counting
 pub mod Crossings
 pub mod Decide
+pub mod Descents
 pub mod Drawn
 pub mod DrawnRules
 pub mod Dyadic
+pub mod FaithfulLookUps
 pub mod FanOrder
 pub mod Faults
 pub mod Flip
+pub mod Floors
 pub mod Groups
 pub mod Heights
+pub mod HeldIndex
 pub mod Index
 pub mod Judgement
 pub mod Keys
+pub mod LensSearched
 pub mod LineOrder
 pub mod Lists
 pub mod Lowest
@@ -37,11 +44,14 @@ pub mod Order
 pub mod Overlaps
 pub mod Places
 pub mod Position
+pub mod Probes
 pub mod ReadFrom
 pub mod Readings
 pub mod Repeats
+pub mod SameDescent
 pub mod Scale
 pub mod Scaling
+pub mod SearchRefusals
 pub mod Searches
 pub mod Separators
 pub mod Shift
@@ -50,7 +60,9 @@ pub mod Sides
 pub mod Sights
 pub mod Tables
 pub mod Tally
+pub mod ThirdDemand
 pub mod Tops
 pub mod TransectNames
 pub mod Transects
+pub mod Turns
 pub mod ZoneLine

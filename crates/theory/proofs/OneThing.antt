@@ -1,5 +1,5 @@
 -- A point on an accepted sheet is in one thing only, one vertex or one edge or a zone, and the plain reading is that thing.
-use mathlib.Core.Path.{_≡_, refl, sym, _∙_}
+use mathlib.Core.Path.{_≡_, refl, sym, ap, _∙_}
 use mathlib.Core.Bool.{true, false, false≢true}
 use mathlib.Core.Logic.{_⊎_, inl, inr, ⊎-elim}
 use Prim.Native.Nat.{ℕ, _*_, _<_}
@@ -45,7 +45,7 @@ module _ (s : Sheet) (a : Accepted s) where
   vertex-one x y u v b c i j = same-point s (a .one) u v b c (i .0 ∙ sym (j .0)) (i .1 ∙ sym (j .1))
 
   -- where a point on an edge has the abscissa of one of the edge's ends, that end is the point
-  end-here : (x y v e : ℕ) → e < edgeCount s → IsOn s x y e → xOf s v ≡ x → IsEnd s v e → IsVertex s x y v
+  pub end-here : (x y v e : ℕ) → e < edgeCount s → IsOn s x y e → xOf s v ≡ x → IsEnd s v e → IsVertex s x y v
   end-here x y v e b i q d = (q, scale .level-same (yOf s v) y (sym (height d) ∙ scale .on-level e x y b .0 (i .1)))
     where
       height : IsEnd s v e → scaled s (2 * x) e ≡ level s (yOf s v)
@@ -69,6 +69,19 @@ module _ (s : Sheet) (a : Accepted s) where
   edge-one x y e f off b c i j =
       ⊎-elim (λ q. q) (λ v. absurd (off (v .0) (v .1) (end-here x y (v .0) e b i (v .2) (v .3 .0))))
       (no-crossing s (a .one) (a .two) (a .four) .meet x e f (b, i .0) (c, j .0) (scale .on-level e x y b .0 (i .1) ∙ sym (scale .on-level f x y c .0 (j .1))))
+
+  -- a vertex that is the point is the plain reading
+  pub vertex-plain : (x y v : ℕ) → v < vertexCount s → IsVertex s x y v → Vertex v ≡ plainReading s x y
+  vertex-plain x y v b i =
+      by-plain s x y (λ r. Vertex v ≡ r) (λ u c j. ap Vertex (vertex-one x y v u b c i j)) (λ n e c j. absurd (n v b i)) (λ n m. absurd (n v b i))
+
+  -- an edge through the point, neither end of which is the point, is the plain reading
+  pub edge-plain : (x y e : ℕ) → e < edgeCount s → IsOn s x y e → (IsVertex s x y (westOf s e) → ⊥) → (IsVertex s x y (eastOf s e) → ⊥)
+      → Edge e ≡ plainReading s x y
+  edge-plain x y e b i west east =
+      by-plain s x y (λ r. Edge e ≡ r)
+      (λ v c j. ⊎-elim (λ (q : westOf s e ≡ v). absurd (west (rw q j))) (λ (q : eastOf s e ≡ v). absurd (east (rw q j))) (vertex-ends x y v e c j b i))
+      (λ n f c j. ap Edge (edge-one x y e f n b c i j)) (λ n m. absurd (m e b i))
 
   -- a zone read from beneath is a zone of the sheet
   read-below : (x y z : ℕ) → ReadBeneath s x y z → z < zoneCount s

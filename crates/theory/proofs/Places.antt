@@ -4,11 +4,11 @@ use mathlib.Core.Logic.{_⊎_, inl, inr, ⊎-elim}
 use Prim.Native.Nat.{ℕ, _-_, _<_, _≤_}
 use native.Mathlib.Nat.{le-refl}
 use native.Mathlib.Omega.{arith}
-use lib.ListN.{length, getD}
+use lib.ListN.{length}
 use Rattle.subdivision.specs.Sheet.{Sheet, westMargin, eastMargin, edgeCount, zoneCount, xOf, westOf, aboveOf, belowOf}
 use Rattle.subdivision.specs.ZoneLine.{zoneLine}
 use Rattle.subdivision.specs.Accepted.{Accepted}
-use Rattle.subdivision.specs.Index.{placeOf}
+use Rattle.subdivision.specs.Index.{placeOf, zoneAt}
 use Rattle.subdivision.specs.Reading.{firstZone, lastZone}
 use Rattle.theory.proofs.Chains.{accepted-line, accepted-above}
 use Rattle.theory.proofs.ColumnNames.{column-filled}
@@ -48,16 +48,22 @@ module _ (s : Sheet) (a : Accepted s) where
   unfolding placeOf lastZone
   last-has-last-place = place-of-entry s (zoneCount s - 1) last-in-line
 
-  place-within : (z : ℕ) → z < zoneCount s → placeOf s z < zoneCount s
+  pub place-within : (z : ℕ) → z < zoneCount s → placeOf s z < zoneCount s
   unfolding placeOf
   place-within z h = omega (arith, accepted-line s a, full-places s (accepted-line s a) z h)
 
+  pub zone-at-below : (p : ℕ) → p < zoneCount s → zoneAt s p < zoneCount s
+  unfolding zoneAt
+  zone-at-below p h = line-entry-below s p (omega (arith, accepted-line s a))
+
+  -- at a zone's place is the zone
+  pub zone-at-place : (z : ℕ) → z < zoneCount s → zoneAt s (placeOf s z) ≡ z
+  unfolding placeOf zoneAt
+  zone-at-place z h = entry-at-place z (zoneLine s) (full-places s (accepted-line s a) z h)
+
   -- zones of one place are one
   place-one : (y z : ℕ) → y < zoneCount s → z < zoneCount s → placeOf s y ≡ placeOf s z → y ≡ z
-  unfolding placeOf
-  place-one y z g h e =
-      sym (entry-at-place y (zoneLine s) (full-places s (accepted-line s a) y g))
-      ∙ (ap (λ p. getD (zoneLine s) p 0) e ∙ entry-at-place z (zoneLine s) (full-places s (accepted-line s a) z h))
+  place-one y z g h e = sym (zone-at-place y g) ∙ (ap (zoneAt s) e ∙ zone-at-place z h)
 
   -- ---- rule 6
 

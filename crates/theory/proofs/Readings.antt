@@ -44,7 +44,7 @@ module _ (s : Sheet) (a : Accepted s) where
     not-lower e f b c = rw (← v .half-line) (not-less _ _ _ (scale .lower-less line e f b c))
 
     -- at the abscissa of the view the edges stand, weakly, as on its half line
-    view-order : Rises (drawingOf s) (v .column) (scaled s (2 * x))
+    pub view-order : Rises (drawingOf s) (v .column) (scaled s (2 * x))
     view-order = by-view s (λ c b. Rises (drawingOf s) c (scaled s (2 * b))) (λ eastern c w k. column-rises s (accepted-drawn s a) eastern c) v
 
     module _ (y : ℕ) where
@@ -79,7 +79,7 @@ module _ (s : Sheet) (a : Accepted s) where
       zoneOver = readFrom s (isLowest s line over) (belowOf s) (lastZone s)
 
       -- the point is on an edge of the column that has its level
-      view-on : (g : ℕ) → InColumn (drawingOf s) (v .column) g → scaled s (2 * x) g ≡ level s y → IsOn s x y g
+      pub view-on : (g : ℕ) → InColumn (drawingOf s) (v .column) g → scaled s (2 * x) g ≡ level s y → IsOn s x y g
       view-on g i q =
           ((omega (arith, v .beside .0, i .1 .0), omega (arith, v .beside .1, i .1 .1)), scale .on-level g x y (i .0) .1 q)
 

@@ -1,20 +1,20 @@
 -- Each part is written where the one before it ends.
-use Prim.Native.Nat.{_+_, _*_}
-use native.Mathlib.Omega.{arith}
-use lib.ListN.{length}
 use Rattle.opening.proofs.Parts.{parts-put}
 use borrow.Author.Needs.{needs}
 use Rattle.opening.proofs.index.parts.Statement.{statement}
 use Rattle.opening.proofs.index.parts.Tie as tie
 
-mul-starts-at : tie.Need-mul-starts-at
-mul-starts-at c = search needs
+cast-n : tie.Need-cast-n
+cast-n c = search needs
 
-mul-entries-at : tie.Need-mul-entries-at
-mul-entries-at c = search needs
+zone-word-requires : tie.Need-zone-word-requires
+zone-word-requires c κs = search needs
 
-add-entries-at : tie.Need-add-entries-at
-add-entries-at c = search needs
+start-word-requires : tie.Need-start-word-requires
+start-word-requires c κs = search needs
+
+entry-word-requires : tie.Need-entry-word-requires
+entry-word-requires c κs = search needs
 
 write-requires : tie.Need-write-requires
 write-requires c κs = search needs
@@ -37,21 +37,25 @@ returns c =
     let third = fourth .before .before .before .before in
     let second = third .before .before .before .before in
     let first = second .before .before .before .before in
-    let start = first .before .before .before .before .before .before .before in
+    let entries = first .before .before in
+    let starts = entries .before in
+    let zones = starts .before in
+    let start = zones .before .before .before .before .before .before in
     let a = start .args in
-    let n = length (a .line .now) in
     parts-put (a .place .now) (a .line .now) (a .starts .now) (a .entries .now) (a .index .now)
     (first .write .last .1 .0) (second .write2 .last .1 .0) (third .write3 .last .1 .0) (fourth .write4 .last .1 .0)
-    n (2 * n) (3 * n + 1) (start .pre .0 .0) (start .pre .0 .1) (omega arith) (omega arith) (omega arith)
+    (zones .zone-word .result) (starts .start-word .result) (entries .entry-word .result) (start .pre .1 .0) (start .pre .1 .1)
+    (zones .zone-word .ensures) (starts .start-word .ensures) (entries .entry-word .ensures)
     (first .write .ensures) (second .write2 .ensures) (third .write3 .ensures) (fourth .write4 .ensures)
 
 pub parts-spec : {M : Type 1} → statement M
 parts-spec =
     tie.close
     (tie.spec
-    mul-starts-at
-    mul-entries-at
-    add-entries-at
+    cast-n
+    zone-word-requires
+    start-word-requires
+    entry-word-requires
     write-requires
     write-requires-2
     write-requires-3

@@ -5,8 +5,8 @@ use borrow.Author.Needs.{needs}
 use Rattle.subdivision.specs.Formula.{Formula, both, isAtMost}
 use Rattle.subdivision.specs.Rules.{inRange}
 use Rattle.theory.proofs.Decide.{held, fails, both-goes-on, both-ends}
-use Rattle.reading.proofs.points.on_sheet.Statement.{statement}
-use Rattle.reading.proofs.points.on_sheet.Tie as tie
+use Rattle.records.proofs.vertices.on_sheet.Statement.{statement}
+use Rattle.records.proofs.vertices.on_sheet.Tie as tie
 
 -- the point is between the margins
 abbrev margins : tie.Start → Formula
