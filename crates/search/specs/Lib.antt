@@ -1,0 +1,2 @@
+-- Definitions that the quick search's contracts cite.
+pub mod Steps
