@@ -1,14 +1,19 @@
-// The worked cases of document 01 that the parts built so far answer, a line each: the worked sheets
-// opened, and the lens's points read; lca, top bits, and on the lens sheet the order from west to
+// The worked cases of document 01, a line each: the lens's points searched, the worked sheets opened,
+// and the lens's points read; lca, top bits, and on the lens sheet the order from west to
 // east, the side of each covering edge at the seven points, and rule 4; then rule 4 broken.
 mod openings;
 mod readings;
+mod searches;
 
 use crate::openings::openings;
 use crate::readings::readings;
+use crate::searches::searches;
 use libc::STDOUT_FILENO;
 use subdivision::Segment;
 use subdivision::Side;
+
+// What every word holds before it is lent.
+const LENT: u32 = 99;
 
 // The lens sheet's vertices.
 const VERTICES: [i32; 8] = [0, 0, 2, 2, 2, -2, 4, 0];
@@ -162,6 +167,7 @@ fn points() {
 }
 
 fn main() {
+    searches();
     openings();
     readings();
     lca(0, 11);

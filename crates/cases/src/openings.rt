@@ -1,12 +1,10 @@
 use crate::EDGES;
+use crate::LENT;
 use crate::VERTICES;
 use crate::number;
 use crate::text;
 use subdivision::MAX_EDGES;
 use subdivision::Verdict;
-
-// What every word holds before it is lent.
-const LENT: u32 = 99;
 
 // The lens sheet with the x of vertex 3 at 1,000,000.
 const FAR: [i32; 8] = [0, 0, 2, 2, 2, -2, 1000000, 0];
@@ -124,17 +122,25 @@ fn verdict(v: Verdict) {
     }
 }
 
-fn words(index: &[u32]) {
+// The first words, so many of them or all there are.
+pub(crate) fn front(words: &[u32], count: usize) {
     let mut i = 0;
-    while i < index.len() {
-        number(index[i]);
+    while i < words.len() {
+        if i < count {
+            number(words[i]);
+        }
         i += 1;
     }
+}
+
+// Every word, to the end of the line.
+pub(crate) fn words(words: &[u32]) {
+    front(words, words.len());
     text(b"\n");
 }
 
 // Opens a sheet over lent words, and prints the verdict and every word afterwards.
-fn opened(
+pub(crate) fn opened(
     name: &[u8],
     west: i32,
     east: i32,
@@ -151,16 +157,6 @@ fn opened(
 fn lenses() {
     let vertices = VERTICES;
     let edges = EDGES;
-    let mut enough = [LENT; 15];
-    opened(
-        b"the lens, 15 words:",
-        0,
-        4,
-        &vertices,
-        &edges,
-        3,
-        &mut enough,
-    );
     let mut short = [LENT; 13];
     opened(
         b"the lens, 13 words:",

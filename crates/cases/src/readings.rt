@@ -4,7 +4,7 @@ use crate::number;
 use crate::text;
 use subdivision::Answer;
 
-fn answer(a: Answer) {
+pub(crate) fn answer(a: Answer) {
     match a {
         Answer::Vertex(v) => {
             text(b" vertex");
@@ -24,7 +24,6 @@ fn answer(a: Answer) {
             number(item);
         }
     }
-    text(b"\n");
 }
 
 // The plain reading of a point of the lens sheet.
@@ -33,6 +32,7 @@ fn lens_point(name: &[u8], x: i32, y: i32) {
     let edges = EDGES;
     text(name);
     answer(reading::read_point(0, 4, &vertices, &edges, 3, x, y));
+    text(b"\n");
 }
 
 // The worked points of document 01 by the plain reading.

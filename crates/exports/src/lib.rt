@@ -9,8 +9,8 @@ ghost use Rattle.subdivision.specs.Formula.{holds};
 ghost use Rattle.subdivision.specs.Dyadic.{bits, topBit, lca};
 ghost use Rattle.subdivision.specs.Sheet.{shifted, sheetOf, segmentOf};
 ghost use Rattle.subdivision.specs.Lines.{covers, sideAt, conflict};
-ghost use Rattle.subdivision.specs.Answers.{answerValues, verdictValues, sideValue};
-ghost use Rattle.subdivision.specs.Calls.{opening, reading};
+ghost use Rattle.subdivision.specs.Answers.{answerValues, foundValues, verdictValues, sideValue};
+ghost use Rattle.subdivision.specs.Calls.{opening, reading, searching};
 ghost use Rattle.exports.specs.Flags.{flag, sortFits, sortLeaves};
 
 // The bit length of k.
@@ -140,5 +140,34 @@ pub extern "C" fn tw_read(
         Answer::Edge(e) => *out = [2, e, 0],
         Answer::Zone(z) => *out = [3, z, 0],
         Answer::Refused(number, item) => *out = [0, number, item],
+    }
+}
+
+// Searches for a point by the words of an index: `out` is the kind (0 refused, 1 vertex, 2 edge, 3
+// zone), its number, the item that a refusal names, the edges examined and the probes; the edges
+// examined are written, in order, to the front of `trail`.
+#[no_mangle]
+pub extern "C" fn tw_search(
+    west: i32,
+    east: i32,
+    vertices: &[i32],
+    edges: &[u32],
+    zones: u32,
+    index: &[u32],
+    x: i32,
+    y: i32,
+    trail: &mut [u32],
+    out: &mut [u32; 5],
+)
+    ensures found { λ _. ⌜ now (out .exit) ≡ foundValues (searching (sheetOf west east (now (vertices .entry)) (now (edges .entry)) zones) (now (index .entry)) x y (now (trail .entry)) .found) ⌝ }
+    ensures listed { λ _. ⌜ now (trail .exit) ≡ searching (sheetOf west east (now (vertices .entry)) (now (edges .entry)) zones) (now (index .entry)) x y (now (trail .entry)) .trail ⌝ }
+{
+    let found = search::search_point(west, east, vertices, edges, zones, index, x, y, trail);
+    let answer = found.answer;
+    match answer {
+        Answer::Vertex(v) => *out = [1, v, 0, found.examined, found.probes],
+        Answer::Edge(e) => *out = [2, e, 0, found.examined, found.probes],
+        Answer::Zone(z) => *out = [3, z, 0, found.examined, found.probes],
+        Answer::Refused(number, item) => *out = [0, number, item, found.examined, found.probes],
     }
 }

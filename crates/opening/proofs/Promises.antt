@@ -19,8 +19,7 @@ use Rattle.subdivision.specs.Calls.{opening}
 use Rattle.theory.proofs.Decide.{held, fails}
 use Rattle.theory.proofs.Judgement.{refused-first, passed-first, none-named}
 use Rattle.theory.proofs.Faults.{opened-exactly, refused-exactly}
-use Rattle.theory.proofs.Chains.{index-length, accepted-line, accepted-above, accepted-west}
-use Rattle.theory.proofs.HeldIndex.{written-holds}
+use Rattle.theory.proofs.HeldIndex.{words-long, written-holds}
 
 module _ (s : Sheet) (index : List ℕ) where
   -- the promises of a verdict and the words left, in the order of the contract
@@ -56,7 +55,7 @@ module _ (s : Sheet) (index : List ℕ) where
   pub opened-promised : (left : List ℕ) → judged (openingRefusals s (length index)) ≡ Verdict.Passed → left ≡ put (indexWords s) index → Promised Verdict.Passed left
   unfolding opening
   opened-promised left e w =
-      (rw (e, opening), (w ∙ rw (e, opening), (told .0, (told .1, (λ p. (w, long), (λ n i p. absurd (false≢true cc), λ p. subst (HoldsIndex s) (sym w) (written-holds s a index)))))))
+      (rw (e, opening), (w ∙ rw (e, opening), (told .0, (told .1, (λ p. (w, words-long s a), (λ n i p. absurd (false≢true cc), λ p. subst (HoldsIndex s) (sym w) (written-holds s a index)))))))
     where
       told : ((Verdict.Passed ≡ Verdict.Passed) ↔ (Accepted s × (indexNeed (zoneCount s) (edgeCount s) ≤ length index)))
           × ((n i : ℕ) → (Verdict.Passed ≡ Verdict.Refused n i) ↔ GivenBy (openingRefusals s (length index)) n i)
@@ -64,9 +63,6 @@ module _ (s : Sheet) (index : List ℕ) where
 
       a : Accepted s
       a = told .0 .0 refl .0
-
-      long : length (indexWords s) ≡ indexNeed (zoneCount s) (edgeCount s)
-      long = index-length s (accepted-west s a) (accepted-line s a) (accepted-above s a)
 
   -- a refusal by the limits is given
   pub refused-by-limits : (number item : ℕ) → judged (limitRefusals s) ≡ Verdict.Refused number item → judged (openingRefusals s (length index)) ≡ Verdict.Refused number item

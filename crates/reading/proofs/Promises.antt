@@ -19,10 +19,10 @@ use Rattle.subdivision.specs.Accepted.{Accepted}
 use Rattle.subdivision.specs.Reading.{onSheet, firstZone, readingLine, beneath, zoneBeneath, plainReading}
 use Rattle.subdivision.specs.Placed.{OnSheet, OffVertices, OffEdges, OneThingOnly, ReadingsAgree}
 use Rattle.subdivision.specs.Calls.{reading}
-use Rattle.theory.proofs.Decide.{means, held}
+use Rattle.theory.proofs.Decide.{means}
 use Rattle.theory.proofs.Judgement.{judged-append, none-named, accepted-decides}
 use Rattle.theory.proofs.Faults.{reading-refused-exactly}
-use Rattle.theory.proofs.OneThing.{by-plain, one-thing}
+use Rattle.theory.proofs.OneThing.{by-plain, one-thing, accepted-reads}
 use Rattle.theory.proofs.Readings.{zones-agree, read-so}
 use Rattle.reading.specs.Scans.{vertexAt, edgeOn, edgeBeneath, zoneFrom, placed}
 use Rattle.reading.proofs.Highest.{highest-beneath}
@@ -90,11 +90,6 @@ module _ (s : Sheet) (x y : ℤ) where
   answer-refused Passed number item = (λ p. absurd (plain-not-refused s (shifted x) (shifted y) number item p), λ p. absurd (false≢true cc))
   answer-refused (Refused n i) number item = (λ p. cc, λ p. ap answerTo p)
 
-  -- on an accepted sheet a point that is on it has the plain reading
-  accepted-reads : Accepted s → OnSheet s (shifted x) (shifted y) → reading s x y ≡ plainReading s (shifted x) (shifted y)
-  unfolding reading
-  accepted-reads a o = rw (accepted-decides s .1 a, held (onSheet s (shifted x) (shifted y)) o, reading)
-
   refused-exactly : (number item : ℕ) → (reading s x y ≡ Answer.Refused number item) ↔ GivenBy (readingRefusals s (shifted x) (shifted y)) number item
   refused-exactly number item =
       (λ p. given .0 (answer .0 (sym reading-judged ∙ p)), λ g. reading-judged ∙ answer .1 (given .1 g))
@@ -113,11 +108,11 @@ module _ (s : Sheet) (x y : ℤ) where
   promised r e = subst Promised (sym e) (refl, (refused-exactly, (in-one-thing, in-zone)))
     where
       in-one-thing : OneThingOnly s (shifted x) (shifted y) (reading s x y)
-      in-one-thing a o = rw (accepted-reads a o) (one-thing s a (shifted x) (shifted y) o)
+      in-one-thing a o = rw (accepted-reads s a x y o) (one-thing s a (shifted x) (shifted y) o)
 
       in-zone : ReadingsAgree s (shifted x) (shifted y) (reading s x y)
       in-zone a o v f =
-          (zoneBeneath s (shifted x) (shifted y), accepted-reads a o ∙ off-reads-zone s (shifted x) (shifted y) v f, (zones-agree s a (shifted x) (shifted y) o f, read-so s a (shifted x) (shifted y) o f))
+          (zoneBeneath s (shifted x) (shifted y), accepted-reads s a x y o ∙ off-reads-zone s (shifted x) (shifted y) v f, (zones-agree s a (shifted x) (shifted y) o f, read-so s a (shifted x) (shifted y) o f))
 
   -- a refusal of the tables keeps them
   pub refusal-promised : (number item : ℕ) → judged (tableRefusals s) ≡ Verdict.Refused number item → Promised (Answer.Refused number item)
@@ -132,7 +127,7 @@ module _ (s : Sheet) (x y : ℤ) where
   -- what the scans find keeps them
   pub placed-promised : (first : ℕ) → judged (tableRefusals s) ≡ Verdict.Passed → holds (onSheet s (shifted x) (shifted y)) ≡ true → first ≡ firstZone s
       → Promised (placed (s .vertices) (s .edges) (shifted x) (shifted y) (eastMargin s) first)
-  placed-promised first e f z = promised _ (placed-is-plain s (shifted x) (shifted y) first a o z ∙ sym (accepted-reads a o))
+  placed-promised first e f z = promised _ (placed-is-plain s (shifted x) (shifted y) first a o z ∙ sym (accepted-reads s a x y o))
     where
       a : Accepted s
       a = accepted-decides s .0 e

@@ -14,7 +14,7 @@ use lib.Seq.{take-suc-set}
 use borrow.Author.Tests.{lt-ltb, le-ltb, le-leb, lt-leb}
 use Rattle.subdivision.specs.declared.Answer.{Answer}
 use Rattle.subdivision.specs.declared.Found.{Found}
-use Rattle.subdivision.specs.Limits.{maxEdges, maxZones}
+use Rattle.subdivision.specs.Limits.{maxEdges, maxZones, maxExamined}
 use Rattle.subdivision.specs.Dyadic.{bits, topBit}
 use Rattle.subdivision.specs.Layout.{zoneWord}
 use Rattle.subdivision.specs.Sheet.{Sheet, edgeCount, zoneCount}
@@ -28,9 +28,9 @@ use Rattle.search.specs.declared.descent.Step.the-variants.{Son, Past, O
 use Rattle.search.specs.Steps.{stateOf, arrivedFound, foundBy, trailOf}
 use Rattle.search.proofs.Steps.{Follows}
 
--- so few edges are examined between at most 1,024 zones
-pub few-edges : (n : ℕ) → n ≤ maxZones → bits (n - 1) ≤ 10
-few-edges n h = bits-le 10 (n - 1) (omega arith)
+-- the limits leave so few edges to examine
+pub few-edges : (n : ℕ) → n ≤ maxZones → bits (n - 1) ≤ maxExamined
+few-edges n h = bits-le maxExamined (n - 1) (omega arith)
 
 -- the edges examined so far: the front of the array
 abbrev listed : Descent → List ℕ → List ℕ
@@ -52,7 +52,7 @@ module _ (s : Sheet) (index : List ℕ) (x y : ℕ) where
 
   -- what the loop finds and lists is what the whole descent does
   abbrev pub Ended : Found → List ℕ → Type 0
-  Ended r array = (r ≡ foundBy s (indexDescent s index x y)) × (take (r .examined) array ≡ trailOf (indexDescent s index x y))
+  Ended r array = (r ≡ foundBy (indexDescent s index x y)) × (take (r .examined) array ≡ trailOf (indexDescent s index x y))
 
   -- a state reached after d, with fewer turns left
   abbrev Onward : Descent → Descent → List ℕ → Type 0
@@ -64,7 +64,7 @@ module _ (s : Sheet) (index : List ℕ) (x y : ℕ) where
   Leads d array (Past e next) = (d .examined < bits (zoneCount s - 1)) × Onward d next (set array (d .examined) e)
   Leads d array (On e last) =
       (d .examined < bits (zoneCount s - 1))
-      × Ended (record { answer = onEdge s (indexLookUps s []) x y e; examined = last .examined; probes = last .probes }) (set array (d .examined) e)
+      × Ended (record { answer = onEdge s x y e; examined = last .examined; probes = last .probes }) (set array (d .examined) e)
   Leads d array Damaged = Ended (record { answer = Answer.Refused 22 0; examined = 0; probes = 0 }) array
 
   pub start-reached : (array : List ℕ) → 1 ≤ zoneCount s → bits (zoneCount s - 1) ≤ length array
@@ -86,7 +86,7 @@ module _ (s : Sheet) (index : List ℕ) (x y : ℕ) where
     step-allowed n m =
         (omega (arith, r .sound .inside), (omega (arith, r .counted, long), omega (arith, le-trans (r .sound .probed) (mul-le-mul long wide))))
       where
-        long : length (listed d array) ≤ 10
+        long : length (listed d array) ≤ maxExamined
         long = le-trans (r .sound .counted) (few-edges (zoneCount s) n)
 
         wide : bits (edgeCount s) ≤ 12
@@ -109,9 +109,9 @@ module _ (s : Sheet) (index : List ℕ) (x y : ℕ) where
             record { room = room; counted = count; sound = turn-sound s index x y from to (r .sound) e; fuel = fuel; enough = omega (arith, falls); same = sym (ap (after fuel) e) ∙ m }
 
     -- a turn that does not go onward ends the descent
-    ends : (t : Turn) (f : Found) (left : List ℕ) → ((fuel : ℕ) → after fuel t ≡ t) → turn s w x y from ≡ t → f ≡ foundBy s t → take (f .examined) left ≡ trailOf t
+    ends : (t : Turn) (f : Found) (left : List ℕ) → ((fuel : ℕ) → after fuel t ≡ t) → turn s w x y from ≡ t → f ≡ foundBy t → take (f .examined) left ≡ trailOf t
         → Ended f left
-    ends t f left stops e found trail = let whole = sym (go (r .fuel) (r .enough) (r .same)) in (found ∙ ap (foundBy s) whole, trail ∙ ap trailOf whole)
+    ends t f left stops e found trail = let whole = sym (go (r .fuel) (r .enough) (r .same)) in (found ∙ ap foundBy whole, trail ∙ ap trailOf whole)
       where
         go : (fuel : ℕ) → turnsLeft (stateOf d []) ≤ fuel → turns s w x y fuel from ≡ indexDescent s index x y → indexDescent s index x y ≡ t
         go zero l m = absurd (omega (arith, left-some s from (r .sound)))
@@ -143,13 +143,13 @@ module _ (s : Sheet) (index : List ℕ) (x y : ℕ) where
         more : listed next (set array (d .examined) e) ≡ with e
         more = with-listed e next c room
     step-leads (On e last) (f, c) =
-        (room, ends (answered (onEdge s (indexLookUps s []) x y e) (stateOf last (with e))) _ (set array (d .examined) e) (λ fuel. refl) lands (λ i. record { answer = onEdge s (indexLookUps s []) x y e; examined = (c ∙ sym (with-long e)) i; probes = last .probes }) (with-listed e last c room))
+        (room, ends (answered (onEdge s x y e) (stateOf last (with e))) _ (set array (d .examined) e) (λ fuel. refl) lands (λ i. record { answer = onEdge s x y e; examined = (c ∙ sym (with-long e)) i; probes = last .probes }) (with-listed e last c room))
       where
-        lands : turn s w x y from ≡ answered (onEdge s (indexLookUps s []) x y e) (stateOf last (with e))
+        lands : turn s w x y from ≡ answered (onEdge s x y e) (stateOf last (with e))
         lands = sym (f (listed d array))
 
         room : d .examined < bits (zoneCount s - 1)
-        room = omega (arith, answered-counts s index x y from (stateOf last (with e)) (onEdge s (indexLookUps s []) x y e) (r .sound) lands .0, with-long e)
+        room = omega (arith, answered-counts s index x y from (stateOf last (with e)) (onEdge s x y e) (r .sound) lands .0, with-long e)
     step-leads Damaged (f, c) = ends damaged _ array (λ fuel. refl) (sym (f (listed d array))) refl refl
 
     -- at i = j the zone at that place is found, or a word at fault
@@ -180,7 +180,7 @@ module _ (s : Sheet) (index : List ℕ) (x y : ℕ) where
   pub ended-long : (r : Found) (array : List ℕ) → Ended r array → length (take (r .examined) array) ≡ r .examined
   ended-long r array e = ap length (e .1) ∙ counts (indexDescent s index x y) ∙ sym (ap (λ (f : Found). f .examined) (e .0))
     where
-      counts : (t : Turn) → length (trailOf t) ≡ foundBy s t .examined
+      counts : (t : Turn) → length (trailOf t) ≡ foundBy t .examined
       counts (onward d) = refl
       counts (answered a d) = refl
       counts damaged = refl
@@ -189,7 +189,7 @@ module _ (s : Sheet) (index : List ℕ) (x y : ℕ) where
   pub ended-few : (r : Found) (array : List ℕ) → 1 ≤ zoneCount s → Ended r array → r .examined ≤ bits (zoneCount s - 1)
   ended-few r array n e = subst (λ (f : Found). f .examined ≤ bits (zoneCount s - 1)) (sym (e .0)) (few (indexDescent s index x y) refl)
     where
-      few : (t : Turn) → indexDescent s index x y ≡ t → foundBy s t .examined ≤ bits (zoneCount s - 1)
+      few : (t : Turn) → indexDescent s index x y ≡ t → foundBy t .examined ≤ bits (zoneCount s - 1)
       few (onward d) p = zero-le
       few (answered a d) p = descent-counts s index x y n a d p .0
       few damaged p = zero-le

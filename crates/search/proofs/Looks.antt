@@ -55,22 +55,22 @@ module _ (west east : ℕ) (vertices : List ℤ) (edges : List ℕ) (zones e : �
 module _ (s : Sheet) (w : LookUps) (x : ℕ) (found : Probed) where
   -- the probes of the entries from lo to before hi, with p made before, find this
   abbrev pub Probing : ℕ → ℕ → ℕ → Type 0
-  Probing lo hi p = (fuel : ℕ) × (hi ≤ fuel + lo) × (probe s w x 0 fuel lo hi p ≡ found)
+  Probing lo hi p = (fuel : ℕ) × (hi ≤ fuel + lo) × (probe s w x fuel lo hi p ≡ found)
 
   -- what the probes that are left find by the look in the middle, and where no entries are left
-  pub probing-faulty : (lo hi p : ℕ) → lo < hi → look s w x 0 (w .entry ((lo + hi) / 2)) ≡ Faulty → Probing lo hi p → Missing ≡ found
+  pub probing-faulty : (lo hi p : ℕ) → lo < hi → look s w x (w .entry ((lo + hi) / 2)) ≡ Faulty → Probing lo hi p → Missing ≡ found
   probing-faulty lo hi p h l (zero, room, e) = absurd (omega arith)
   probing-faulty lo hi p h l (suc fuel, room, e) = rw (lt-ltb lo hi h, l, probe) at e
 
-  pub probing-west : (lo hi p : ℕ) → lo < hi → look s w x 0 (w .entry ((lo + hi) / 2)) ≡ West → Probing lo hi p → Probing lo ((lo + hi) / 2) (p + 1)
+  pub probing-west : (lo hi p : ℕ) → lo < hi → look s w x (w .entry ((lo + hi) / 2)) ≡ West → Probing lo hi p → Probing lo ((lo + hi) / 2) (p + 1)
   probing-west lo hi p h l (zero, room, e) = absurd (omega arith)
   probing-west lo hi p h l (suc fuel, room, e) = (fuel, omega arith, rw (add-one p) (rw (lt-ltb lo hi h, l, probe) at e))
 
-  pub probing-covering : (lo hi p : ℕ) → lo < hi → look s w x 0 (w .entry ((lo + hi) / 2)) ≡ Covering → Probing lo hi p → Covered (w .entry ((lo + hi) / 2)) (p + 1) ≡ found
+  pub probing-covering : (lo hi p : ℕ) → lo < hi → look s w x (w .entry ((lo + hi) / 2)) ≡ Covering → Probing lo hi p → Covered (w .entry ((lo + hi) / 2)) (p + 1) ≡ found
   probing-covering lo hi p h l (zero, room, e) = absurd (omega arith)
   probing-covering lo hi p h l (suc fuel, room, e) = rw (add-one p) (rw (lt-ltb lo hi h, l, probe) at e)
 
-  pub probing-beyond : (lo hi p : ℕ) → lo < hi → look s w x 0 (w .entry ((lo + hi) / 2)) ≡ Beyond → Probing lo hi p → Probing ((lo + hi) / 2 + 1) hi (p + 1)
+  pub probing-beyond : (lo hi p : ℕ) → lo < hi → look s w x (w .entry ((lo + hi) / 2)) ≡ Beyond → Probing lo hi p → Probing ((lo + hi) / 2 + 1) hi (p + 1)
   probing-beyond lo hi p h l (zero, room, e) = absurd (omega arith)
   probing-beyond lo hi p h l (suc fuel, room, e) = (fuel, omega arith, rw (add-one p) (rw (lt-ltb lo hi h, l, probe) at e))
 

@@ -11,13 +11,12 @@ use Rattle.subdivision.specs.declared.Probed.the-variants.{Covered, Missing}
 use Rattle.subdivision.specs.declared.Side.{Side}
 use Rattle.subdivision.specs.declared.Side.the-variants.{Below, Above}
 use Rattle.subdivision.specs.Formula.{holds}
+use Rattle.subdivision.specs.Dyadic.{leftSon, rightSon}
 use Rattle.subdivision.specs.Sheet.{Sheet, sheetOf, aboveOf, belowOf, segment}
 use Rattle.subdivision.specs.Lines.{sideAt}
-use Rattle.subdivision.specs.Descent.{LookUps, Turn, startsSound, placesSound, probe, stepped, examined, examine, turn, indexLookUps}
+use Rattle.subdivision.specs.Descent.{LookUps, Turn, startsSound, placesSound, probe, past, stepped, examined, examine, turn, indexLookUps}
 use Rattle.subdivision.specs.Descent as defined
-use Rattle.theory.proofs.Blocks.{leftSon, rightSon}
 use Rattle.theory.proofs.Dyadic.{le-or-lt}
-use Rattle.theory.proofs.Turns.{past}
 use Rattle.search.specs.declared.descent.Descent.{Descent}
 use Rattle.search.specs.declared.descent.Step.{Step}
 use Rattle.search.specs.declared.descent.Step.the-variants.{Son, Past, On, Damaged}
@@ -45,16 +44,16 @@ module _ (s : Sheet) (index : List ℕ) (x y : ℕ) where
   -- ---- an edge is examined
 
   -- places at fault damage the step
-  pub edge-damaged : (d : Descent) (e q : ℕ) → holds (placesSound s w x y (d .k) e) ≡ false → Follows s x y d (λ t. examined s w x y t e q) Damaged
+  pub edge-damaged : (d : Descent) (e q : ℕ) → holds (placesSound s w (d .k) e) ≡ false → Follows s x y d (λ t. examined s w x y t e q) Damaged
   edge-damaged d e q fail = (λ trail. rw (fail, examined), tt)
 
   -- on the edge the step ends at it
-  pub edge-on : (d : Descent) (e q : ℕ) {last : Descent} → holds (placesSound s w x y (d .k) e) ≡ true → sideAt (segment s e) x y ≡ Side.On
+  pub edge-on : (d : Descent) (e q : ℕ) {last : Descent} → holds (placesSound s w (d .k) e) ≡ true → sideAt (segment s e) x y ≡ Side.On
       → last ≡ record { i = d .i; j = d .j; k = d .k; examined = d .examined + 1; probes = q } → Follows s x y d (λ t. examined s w x y t e q) (On e last)
   edge-on d e q keep on same = rw same (λ trail. rw (keep, on, examined), refl)
 
   -- past an edge, as the defined step that may not make i > j
-  past-follows : (d : Descent) (e i j q : ℕ) → Follows s x y d (λ t. stepped s w x y (past t e q i j)) (passed d e i j q)
+  past-follows : (d : Descent) (e i j q : ℕ) → Follows s x y d (λ t. stepped w (past t e q i j)) (passed d e i j q)
   past-follows d e i j q =
       ⊎-elim
       (λ (h : i ≤ j). rw (le-ltb j i h, passed) (λ trail. rw (le-leb i j h, stepped), refl))
@@ -62,14 +61,14 @@ module _ (s : Sheet) (index : List ℕ) (x y : ℕ) where
       (le-or-lt i j)
 
   -- above the edge i becomes the place of its zone above
-  pub edge-above : (d : Descent) (e q : ℕ) {p : ℕ} {step : Step} → holds (placesSound s w x y (d .k) e) ≡ true → sideAt (segment s e) x y ≡ Above
+  pub edge-above : (d : Descent) (e q : ℕ) {p : ℕ} {step : Step} → holds (placesSound s w (d .k) e) ≡ true → sideAt (segment s e) x y ≡ Above
       → p ≡ w .place (aboveOf s e) → step ≡ passed d e p (d .j) q → Follows s x y d (λ t. examined s w x y t e q) step
   edge-above d e q keep above place same =
       let f = past-follows d e (w .place (aboveOf s e)) (d .j) q in
       rw (same, place) (λ trail. rw (keep, above, examined) (f .0 trail), f .1)
 
   -- below the edge j becomes the place of its zone below
-  pub edge-below : (d : Descent) (e q : ℕ) {p : ℕ} {step : Step} → holds (placesSound s w x y (d .k) e) ≡ true → sideAt (segment s e) x y ≡ Below
+  pub edge-below : (d : Descent) (e q : ℕ) {p : ℕ} {step : Step} → holds (placesSound s w (d .k) e) ≡ true → sideAt (segment s e) x y ≡ Below
       → p ≡ w .place (belowOf s e) → step ≡ passed d e (d .i) p q → Follows s x y d (λ t. examined s w x y t e q) step
   edge-below d e q keep below place same =
       let f = past-follows d e (d .i) (w .place (belowOf s e)) q in
@@ -78,17 +77,17 @@ module _ (s : Sheet) (index : List ℕ) (x y : ℕ) where
   -- ---- a chain is examined
 
   -- starts at fault damage the step
-  pub chain-damaged : (d : Descent) → holds (startsSound s w x y (d .k)) ≡ false → Follows s x y d (examine s w x y) Damaged
+  pub chain-damaged : (d : Descent) → holds (startsSound s w (d .k)) ≡ false → Follows s x y d (examine s w x y) Damaged
   chain-damaged d fail = (λ trail. rw (fail, examine), tt)
 
   -- so do probes that find no edge
-  pub chain-missing : (d : Descent) {from to : ℕ} {p : Probed} → holds (startsSound s w x y (d .k)) ≡ true
-      → from ≡ w .start (d .k) → to ≡ w .start (d .k + 1) → p ≡ probe s w x y to from to (d .probes) → p ≡ Missing → Follows s x y d (examine s w x y) Damaged
+  pub chain-missing : (d : Descent) {from to : ℕ} {p : Probed} → holds (startsSound s w (d .k)) ≡ true
+      → from ≡ w .start (d .k) → to ≡ w .start (d .k + 1) → p ≡ probe s w x to from to (d .probes) → p ≡ Missing → Follows s x y d (examine s w x y) Damaged
   chain-missing d keep from to made missing = (λ trail. rw (keep, sym (rw (from, to) at made) ∙ missing, examine), tt)
 
   -- where the probes find edge e, the step examines it
-  pub chain-covered : (d : Descent) (e q : ℕ) (step : Step) {from to : ℕ} {p : Probed} → holds (startsSound s w x y (d .k)) ≡ true
-      → from ≡ w .start (d .k) → to ≡ w .start (d .k + 1) → p ≡ probe s w x y to from to (d .probes) → p ≡ Covered e q
+  pub chain-covered : (d : Descent) (e q : ℕ) (step : Step) {from to : ℕ} {p : Probed} → holds (startsSound s w (d .k)) ≡ true
+      → from ≡ w .start (d .k) → to ≡ w .start (d .k + 1) → p ≡ probe s w x to from to (d .probes) → p ≡ Covered e q
       → Follows (unmargined s) x y d (λ t. examined s w x y t e q) step → Follows s x y d (examine s w x y) step
   chain-covered d e q step keep from to made covered f =
       (λ trail. rw (keep, sym (rw (from, to) at made) ∙ covered, examine) (unmargined-turn s x y trail step ∙ f .0 trail), f .1)

@@ -51,7 +51,7 @@ placesKept n below k above = both (both (isLess below n) (isLess above n)) (both
 
 -- a look at edge e that is judged; it depends on no other word of an index
 abbrev pub judgedLook : Sheet → ℕ → ℕ → Look
-judgedLook s x e = look s (indexLookUps s []) x 0 e
+judgedLook s x e = look s (indexLookUps s []) x e
 
 -- ---- states and steps
 
@@ -63,7 +63,7 @@ stateOf d trail = record { i = d .i; j = d .j; k = d .k; trail = trail; probes =
 abbrev pub turnOf : Sheet → ℕ → ℕ → List ℕ → Step → Turn
 turnOf s x y trail (Son d) = onward (stateOf d trail)
 turnOf s x y trail (Past e d) = onward (stateOf d (trail ++ (e ∷ [])))
-turnOf s x y trail (On e d) = answered (onEdge s (indexLookUps s []) x y e) (stateOf d (trail ++ (e ∷ [])))
+turnOf s x y trail (On e d) = answered (onEdge s x y e) (stateOf d (trail ++ (e ∷ [])))
 turnOf s x y trail Damaged = damaged
 
 -- a step counts the edge that it examines
@@ -80,7 +80,7 @@ passed d e i j probes =
 
 -- the answer on an examined edge
 abbrev pub answerOn : List ℤ → List ℕ → ℕ → ℕ → ℕ → Answer
-answerOn vertices edges x y e = onEdge s (indexLookUps s []) x y e
+answerOn vertices edges x y e = onEdge s x y e
   where
     s : Sheet
     s = sheetOf (pos 0) (pos 0) vertices edges 0
@@ -96,8 +96,8 @@ arrivedFound zones index d =
 -- ---- how a descent ends
 
 -- what a search that ends with this turn gives back
-abbrev pub foundBy : Sheet → Turn → Found
-foundBy s t = searchEnded s t [] .found
+abbrev pub foundBy : Turn → Found
+foundBy t = searchEnded t [] .found
 
 -- the edges that it lists
 abbrev pub trailOf : Turn → List ℕ

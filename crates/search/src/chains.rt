@@ -64,7 +64,7 @@ pub fn probe(
     made: u32,
 ) -> Probed
     requires { ⌜ (to ≤ maxEdges) × (made ≤ 2147483648) ⌝ }
-    ensures { λ r. ⌜ r ≡ probe (sheetAt west east (now (vertices .entry)) (now (edges .entry)) zones) (indexLookUps (sheetAt west east (now (vertices .entry)) (now (edges .entry)) zones) (now (index .entry))) x 0 to from to made ⌝ }
+    ensures { λ r. ⌜ r ≡ probe (sheetAt west east (now (vertices .entry)) (now (edges .entry)) zones) (indexLookUps (sheetAt west east (now (vertices .entry)) (now (edges .entry)) zones) (now (index .entry))) x to from to made ⌝ }
 {
     let mut lo = from;
     let mut hi = to;

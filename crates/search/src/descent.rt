@@ -283,7 +283,7 @@ pub fn descend(
 ) -> Found
     requires { ⌜ ((1 ≤ zones) × (zones ≤ maxZones)) × (length (now edges) / 4 ≤ maxEdges) ⌝ }
     requires { ⌜ bits (zones - 1) ≤ length (now trail) ⌝ }
-    ensures found { λ r. ⌜ r ≡ foundBy (sheetAt west east (now (vertices .entry)) (now (edges .entry)) zones) (indexDescent (sheetAt west east (now (vertices .entry)) (now (edges .entry)) zones) (now (index .entry)) x y) ⌝ }
+    ensures found { λ r. ⌜ r ≡ foundBy (indexDescent (sheetAt west east (now (vertices .entry)) (now (edges .entry)) zones) (now (index .entry)) x y) ⌝ }
     ensures listed { λ r. ⌜ take (r .examined) (now (trail .exit)) ≡ trailOf (indexDescent (sheetAt west east (now (vertices .entry)) (now (edges .entry)) zones) (now (index .entry)) x y) ⌝ }
 {
     let mut d = Descent::new(zones);

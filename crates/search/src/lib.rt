@@ -11,13 +11,12 @@ use subdivision::MAX_EXAMINED;
 use subdivision::Verdict;
 ghost use mathlib.Core.Path.{_≡_};
 ghost use mathlib.Core.Logic.{_↔_};
-ghost use Prim.Native.Nat.{ℕ, _*_, _-_, _≤_, _/_};
+ghost use Prim.Native.Nat.{ℕ};
 ghost use lib.ListN.{length};
 ghost use Rattle.subdivision.specs.declared.Answer.{Answer};
-ghost use Rattle.subdivision.specs.Dyadic.{bits};
 ghost use Rattle.subdivision.specs.Sheet.{shifted, sheetOf};
-ghost use Rattle.subdivision.specs.Faults.{GivenBy, searchRefusals};
-ghost use Rattle.subdivision.specs.Engine.{ThirdDemand};
+ghost use Rattle.subdivision.specs.Damage.{SearchRefuses};
+ghost use Rattle.subdivision.specs.Engine.{CountsBounded, ThirdDemand};
 ghost use Rattle.subdivision.specs.Calls.{searching};
 
 mod chains;
@@ -40,9 +39,9 @@ pub fn search_point(
 ) -> Found
     ensures found { λ r. ⌜ r ≡ searching (sheetOf west east (now (vertices .entry)) (now (edges .entry)) zones) (now (index .entry)) x y (now (trail .entry)) .found ⌝ }
     ensures listed { λ _. ⌜ now (trail .exit) ≡ searching (sheetOf west east (now (vertices .entry)) (now (edges .entry)) zones) (now (index .entry)) x y (now (trail .entry)) .trail ⌝ }
-    ensures refused { λ r. ⌜ ((number item : ℕ) → (r .answer ≡ Answer.Refused number item) ↔ GivenBy (searchRefusals (sheetOf west east (now (vertices .entry)) (now (edges .entry)) zones) (now (index .entry)) (shifted x) (shifted y) (length (now (trail .entry)))) number item) ⌝ }
+    ensures refused { λ r. ⌜ ((number item : ℕ) → (r .answer ≡ Answer.Refused number item) ↔ SearchRefuses (sheetOf west east (now (vertices .entry)) (now (edges .entry)) zones) (now (index .entry)) (shifted x) (shifted y) (length (now (trail .entry))) number item) ⌝ }
     ensures untouched { λ r. ⌜ ((number item : ℕ) → r .answer ≡ Answer.Refused number item → (now (trail .exit) ≡ now (trail .entry)) × ((r .examined ≡ 0) × (r .probes ≡ 0))) ⌝ }
-    ensures bounded { λ r. ⌜ (r .examined ≤ bits (zones - 1)) × (r .probes ≤ bits (zones - 1) * bits (length (now (edges .entry)) / 4)) ⌝ }
+    ensures bounded { λ r. ⌜ CountsBounded (sheetOf west east (now (vertices .entry)) (now (edges .entry)) zones) r ⌝ }
     ensures third_demand { λ r. ⌜ ThirdDemand (sheetOf west east (now (vertices .entry)) (now (edges .entry)) zones) (now (index .entry)) (shifted x) (shifted y) (now (trail .entry)) r (now (trail .exit)) ⌝ }
 {
     match sheet::limits(west, east, vertices, edges, zones) {

@@ -1,6 +1,6 @@
 -- The three calls, each with its refusals in order: document 01, "Why the desk refuses".
 use mathlib.Core.Bool.{true, false}
-use mathlib.Core.List.{List, [], _∷_, _++_}
+use mathlib.Core.List.{List, _∷_, _++_}
 use Prim.Native.Nat.{ℕ}
 use lib.IntN.{ℤ}
 use lib.ListN.{length}
@@ -10,7 +10,8 @@ use Rattle.subdivision.specs.declared.Verdict.the-variants.{Passed, Refu
 use Rattle.subdivision.specs.declared.Found.{Found}
 use Rattle.subdivision.specs.Formula.{holds}
 use Rattle.subdivision.specs.Sheet.{Sheet, shifted}
-use Rattle.subdivision.specs.Refusals.{judged, limitRefusals, roomRefusal, ruleRefusals, trailRoom}
+use Rattle.subdivision.specs.Refusals.{judged, limitRefusals, roomRefusal, ruleRefusals}
+use Rattle.subdivision.specs.Faults.{searchRefusals}
 use Rattle.subdivision.specs.Reading.{onSheet, plainReading}
 use Rattle.subdivision.specs.Index.{indexWords}
 use Rattle.subdivision.specs.Lists.{put}
@@ -36,6 +37,12 @@ abbrev pub searchAnswered : Answer → Descent → List ℕ → Searched
 searchAnswered a d trail =
     record { found = record { answer = a; examined = length (d .trail); probes = d .probes }; trail = put (d .trail) trail }
 
+-- the descent's last turn as a search's result; refusal 22 where it is damaged
+abbrev pub searchEnded : Turn → List ℕ → Searched
+searchEnded (onward d) trail = searchRefused 22 0 trail
+searchEnded (answered a d) trail = searchAnswered a d trail
+searchEnded damaged trail = searchRefused 22 0 trail
+
 module _ (s : Sheet) where
   -- opening checks 1 to 13 in this order and then writes the index
   unfoldable pub opening : List ℕ → Opened
@@ -51,25 +58,10 @@ module _ (s : Sheet) where
             elim (holds (onSheet s (shifted x) (shifted y))) [ false ↦ Answer.Refused 20 0 | true ↦ plainReading s (shifted x) (shifted y) ]
       ]
 
-  -- the descent's last turn as a search's result; refusal 22 where it is damaged
-  abbrev pub searchEnded : Turn → List ℕ → Searched
-  searchEnded (onward d) trail = searchRefused 22 0 trail
-  searchEnded (answered a d) trail = searchAnswered a d trail
-  searchEnded damaged trail = searchRefused 22 0 trail
-
   -- the quick search checks 1, 2, 3, 20, 21, and 22 as it goes
   unfoldable pub searching : List ℕ → ℤ → ℤ → List ℕ → Searched
   searching index x y trail =
-      elim (judged (limitRefusals s ++ (roomRefusal s (length index) ∷ []))) [
+      elim (judged (searchRefusals s (length index) (shifted x) (shifted y) (length trail))) [
         | Refused number item ↦ searchRefused number item trail
-        | Passed ↦
-            elim (holds (onSheet s (shifted x) (shifted y))) [
-              | false ↦ searchRefused 20 0 trail
-              | true ↦
-                  elim (holds (trailRoom s (length trail))) [
-                    | false ↦ searchRefused 21 0 trail
-                    | true ↦
-                        searchEnded (indexDescent s index (shifted x) (shifted y)) trail
-                  ]
-            ]
+        | Passed ↦ searchEnded (indexDescent s index (shifted x) (shifted y)) trail
       ]

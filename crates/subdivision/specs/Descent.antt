@@ -12,7 +12,7 @@ use Rattle.subdivision.specs.declared.Probed.{Probed}
 use Rattle.subdivision.specs.declared.Probed.the-variants.{Covered, Missing}
 use Rattle.subdivision.specs.declared.Side.the-variants.{Below, On, Above}
 use Rattle.subdivision.specs.Formula.{Formula, isLess, isAtMost, both, notSo, holds}
-use Rattle.subdivision.specs.Dyadic.{topBit, lowBit}
+use Rattle.subdivision.specs.Dyadic.{topBit, leftSon, rightSon}
 use Rattle.subdivision.specs.Sheet.{Sheet, eastMargin, edgeCount, zoneCount, westOf, eastOf, aboveOf, belowOf, segment}
 use Rattle.subdivision.specs.Lines.{covers, sideAt}
 use Rattle.subdivision.specs.Rules.{vertexInside, edgeNames, edgeRuns}
@@ -42,12 +42,6 @@ pub data Turn : Type 0 where
   answered : Answer → Descent → Turn
   damaged : Turn
 
--- 0 where a descent ends with an answer, and otherwise 1
-abbrev pub damages : Turn → ℕ
-damages (onward d) = 1
-damages (answered a d) = 0
-damages damaged = 1
-
 -- a judged look-up breaks what it should keep
 abbrev pub breaks : LookUps → Formula → Bool
 breaks w kept = elim (w .judging) [ true ↦ holds (notSo kept) | false ↦ false ]
@@ -62,7 +56,7 @@ entrySound s e =
     both (isLess e (edgeCount s))
     (both (edgeNames s e) (both (both (vertexInside s (westOf s e)) (vertexInside s (eastOf s e))) (edgeRuns s e)))
 
-module _ (s : Sheet) (w : LookUps) (x y : ℕ) where
+module _ (s : Sheet) (w : LookUps) where
   -- refusal 22: the start of a chain to be examined and the next start are at most m, and not the wrong way round
   abbrev pub startsSound : ℕ → Formula
   startsSound k =
@@ -74,72 +68,82 @@ module _ (s : Sheet) (w : LookUps) (x y : ℕ) where
       both (both (isLess (w .place (belowOf s e)) (zoneCount s)) (isLess (w .place (aboveOf s e)) (zoneCount s)))
       (both (isLess (w .place (belowOf s e)) k) (isAtMost k (w .place (aboveOf s e))))
 
-  -- one look at entry e: x < western x, x beyond the covered part, or otherwise that edge covers
-  abbrev pub look : ℕ → Look
-  look e =
-      elim (breaks w (entrySound s e)) [
-        | true ↦ Faulty
-        | false ↦
-            elim (ltb x (segment s e .xw)) [
-              | true ↦ West
-              | false ↦
-                  elim (holds (covers (eastMargin s) (segment s e) x)) [ true ↦ Covering | false ↦ Beyond ]
-            ]
-      ]
+  module _ (x : ℕ) where
+    -- one look at entry e: x < western x, x beyond the covered part, or otherwise that edge covers
+    abbrev pub look : ℕ → Look
+    look e =
+        elim (breaks w (entrySound s e)) [
+          | true ↦ Faulty
+          | false ↦
+              elim (ltb x (segment s e .xw)) [
+                | true ↦ West
+                | false ↦
+                    elim (holds (covers (eastMargin s) (segment s e) x)) [ true ↦ Covering | false ↦ Beyond ]
+              ]
+        ]
 
-  -- the entries from lo to before hi are probed in the middle, rounded down, within so many probes; each look is one probe
-  abbrev pub probe : ℕ → ℕ → ℕ → ℕ → Probed
-  probe zero lo hi probes = Missing
-  probe (suc fuel) lo hi probes =
-      elim (ltb lo hi) [
-        | false ↦ Missing
-        | true ↦
-            elim (look (w .entry ((lo + hi) / 2))) [
-              | Faulty ↦ Missing
-              | West ↦ probe fuel lo ((lo + hi) / 2) (suc probes)
-              | Covering ↦ Covered (w .entry ((lo + hi) / 2)) (suc probes)
-              | Beyond ↦ probe fuel ((lo + hi) / 2 + 1) hi (suc probes)
-            ]
-      ]
+    -- the entries from lo to before hi are probed in the middle, rounded down, within so many probes; each look is one probe
+    abbrev pub probe : ℕ → ℕ → ℕ → ℕ → Probed
+    probe zero lo hi probes = Missing
+    probe (suc fuel) lo hi probes =
+        elim (ltb lo hi) [
+          | false ↦ Missing
+          | true ↦
+              elim (look (w .entry ((lo + hi) / 2))) [
+                | Faulty ↦ Missing
+                | West ↦ probe fuel lo ((lo + hi) / 2) (suc probes)
+                | Covering ↦ Covered (w .entry ((lo + hi) / 2)) (suc probes)
+                | Beyond ↦ probe fuel ((lo + hi) / 2 + 1) hi (suc probes)
+              ]
+        ]
 
-  -- on an examined edge the answer is the vertex if the point is one of its ends, else the edge
-  abbrev pub onEdge : ℕ → Answer
-  onEdge e =
-      elim (holds (isVertex s x y (westOf s e))) [
-        | true ↦ Vertex (westOf s e)
-        | false ↦
-            elim (holds (isVertex s x y (eastOf s e))) [ true ↦ Vertex (eastOf s e) | false ↦ Edge e ]
-      ]
+    -- the entries of chain k are probed, with so many probes before
+    abbrev pub probeChain : ℕ → ℕ → Probed
+    probeChain k probes = probe (w .start (k + 1)) (w .start k) (w .start (k + 1)) probes
 
-  -- a step that may not make i > j
-  abbrev pub stepped : Descent → Turn
-  stepped d = elim (breaks w (isAtMost (d .i) (d .j))) [ true ↦ damaged | false ↦ onward d ]
+-- on an examined edge the answer is the vertex if the point is one of its ends, else the edge
+abbrev pub onEdge : Sheet → ℕ → ℕ → ℕ → Answer
+onEdge s x y e =
+    elim (holds (isVertex s x y (westOf s e))) [
+      | true ↦ Vertex (westOf s e)
+      | false ↦
+          elim (holds (isVertex s x y (eastOf s e))) [ true ↦ Vertex (eastOf s e) | false ↦ Edge e ]
+    ]
 
+-- k goes to another chain
+abbrev pub toChain : Descent → ℕ → Descent
+toChain d k = record { i = d .i; j = d .j; k = k; trail = d .trail; probes = d .probes }
+
+-- edge e is examined, with so many probes so far, and i and j become these
+abbrev pub past : Descent → ℕ → ℕ → ℕ → ℕ → Descent
+past d e probes i j = record { i = i; j = j; k = d .k; trail = d .trail ++ (e ∷ []); probes = probes }
+
+-- a step that may not make i > j
+abbrev pub stepped : LookUps → Descent → Turn
+stepped w d = elim (breaks w (isAtMost (d .i) (d .j))) [ true ↦ damaged | false ↦ onward d ]
+
+module _ (s : Sheet) (w : LookUps) (x y : ℕ) where
   -- edge e of chain k is examined, with so many probes so far: above it i becomes the place of its zone above, below it j that of its zone below
   abbrev pub examined : Descent → ℕ → ℕ → Turn
   examined d e probes =
-      elim (breaks w (placesSound (d .k) e)) [
+      elim (breaks w (placesSound s w (d .k) e)) [
         | true ↦ damaged
         | false ↦
             elim (sideAt (segment s e) x y) [
-              | On ↦ answered (onEdge e) (record { i = d .i; j = d .j; k = d .k; trail = d .trail ++ (e ∷ []); probes = probes })
-              | Above ↦ stepped (record { i = w .place (aboveOf s e); j = d .j; k = d .k; trail = d .trail ++ (e ∷ []); probes = probes })
-              | Below ↦ stepped (record { i = d .i; j = w .place (belowOf s e); k = d .k; trail = d .trail ++ (e ∷ []); probes = probes })
+              | On ↦ answered (onEdge s x y e) (past d e probes (d .i) (d .j))
+              | Above ↦ stepped w (past d e probes (w .place (aboveOf s e)) (d .j))
+              | Below ↦ stepped w (past d e probes (d .i) (w .place (belowOf s e)))
             ]
       ]
 
   -- chain k is examined: its probes, then the edge that covers x
   abbrev pub examine : Descent → Turn
   examine d =
-      elim (breaks w (startsSound (d .k))) [
+      elim (breaks w (startsSound s w (d .k))) [
         | true ↦ damaged
         | false ↦
-            elim (probe (w .start (d .k + 1)) (w .start (d .k)) (w .start (d .k + 1)) (d .probes)) [ Covered e probes ↦ examined d e probes | Missing ↦ damaged ]
+            elim (probeChain s w x (d .k) (d .probes)) [ Covered e probes ↦ examined d e probes | Missing ↦ damaged ]
       ]
-
-  -- k goes to a son
-  abbrev pub toChain : Descent → ℕ → Descent
-  toChain d k = record { i = d .i; j = d .j; k = k; trail = d .trail; probes = d .probes }
 
   -- at i = j the answer is the zone at that place
   abbrev pub arrived : Descent → Turn
@@ -152,9 +156,9 @@ module _ (s : Sheet) (w : LookUps) (x y : ℕ) where
         | false ↦ arrived d
         | true ↦
             elim (ltb (d .j) (d .k)) [
-              | true ↦ onward (toChain d (d .k - lowBit (d .k) / 2))
+              | true ↦ onward (toChain d (leftSon (d .k)))
               | false ↦
-                  elim (leb (d .k) (d .i)) [ true ↦ onward (toChain d (d .k + lowBit (d .k) / 2)) | false ↦ examine d ]
+                  elim (leb (d .k) (d .i)) [ true ↦ onward (toChain d (rightSon (d .k))) | false ↦ examine d ]
             ]
       ]
 

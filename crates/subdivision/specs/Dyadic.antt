@@ -1,6 +1,6 @@
 -- Bit lengths, top bits and lca: document 01, "What a sheet is" (its last sentence) and "Index and descent".
 use mathlib.Core.Bool.{true, false}
-use Prim.Native.Nat.{ℕ, zero, suc, _+_, _*_, _/_, _%_}
+use Prim.Native.Nat.{ℕ, zero, suc, _+_, _*_, _-_, _/_, _%_}
 use lib.Dec.{leb, eqb}
 
 -- the bit length by halving, within so many halvings
@@ -29,6 +29,14 @@ lowBitIn (suc fuel) k = elim (eqb (k % 2) 0) [ true ↦ 2 * lowBitIn fuel (k / 2
 -- the lowest set bit of k
 unfoldable pub lowBit : ℕ → ℕ
 lowBit k = lowBitIn k k
+
+-- the left son of k: k less half its lowest set bit
+abbrev pub leftSon : ℕ → ℕ
+leftSon k = k - lowBit k / 2
+
+-- the right son of k: k plus half its lowest set bit
+abbrev pub rightSon : ℕ → ℕ
+rightSon k = k + lowBit k / 2
 
 -- lca by halved places, within so many halvings
 abbrev pub lcaIn : ℕ → ℕ → ℕ → ℕ

@@ -24,24 +24,31 @@ module _ (s : Sheet) where
   abbrev pub HoldsIndex : List ℕ → Type 0
   HoldsIndex index = take (indexNeed (zoneCount s) (edgeCount s)) index ≡ indexWords s
 
-  -- what every engine must answer for a point, over a lent trail: the plain reading's answer, and no refusal; the edges that the
-  -- published descent on the tables alone examines, in its order, none twice, counted, and written over the front of the trail,
-  -- where nothing else changes; and of those at most bits(n-1)
+  -- what every engine must answer for a point, over a lent trail
   pub record EngineAnswers (x y : ℕ) (lent : List ℕ) (answer : Answer) (examined : ℕ) (trail : List ℕ) : Type 0 where
+    -- the plain reading's answer, and no refusal
     pub plain : answer ≡ plainReading s x y
     pub unrefused : (number item : ℕ) → answer ≡ Answer.Refused number item → ⊥
+    -- where the published descent on the tables alone ends
     pub last : Descent
     pub published : publishedDescent s x y ≡ answered answer last
+    -- the edges that it examines, in its order, counted, and written over the front of the trail, where nothing else changes
     pub counted : examined ≡ length (last .trail)
     pub listed : trail ≡ put (last .trail) lent
+    -- none twice, and at most bits(n-1)
     pub noneTwice : NoneTwice (last .trail)
     pub bounded : examined ≤ bits (zoneCount s - 1)
 
-  -- what the quick search must answer: what every engine must, and that descent's probes, at most bits(n-1) x bits(m)
+  -- the counts of a quick search are bounded: at most bits(n-1) edges examined, and at most bits(n-1) x bits(m) probes
+  abbrev pub CountsBounded : Found → Type 0
+  CountsBounded found =
+      (found .examined ≤ bits (zoneCount s - 1)) × (found .probes ≤ bits (zoneCount s - 1) * bits (edgeCount s))
+
+  -- what the quick search must answer: what every engine must, and that descent's probes; its counts are bounded
   pub record QuickAnswers (x y : ℕ) (lent : List ℕ) (found : Found) (trail : List ℕ) : Type 0 where
     pub engine : EngineAnswers x y lent (found .answer) (found .examined) trail
     pub probed : found .probes ≡ engine .last .probes
-    pub probesBounded : found .probes ≤ bits (zoneCount s - 1) * bits (edgeCount s)
+    pub bounded : CountsBounded found
 
   -- the third demand: on an accepted sheet, with an index that holds what opening writes and a trail with room, whatever the trail held,
   -- the quick search of every point on the sheet answers so

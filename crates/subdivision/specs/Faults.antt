@@ -3,12 +3,10 @@ use mathlib.Core.Path.{_≡_}
 use mathlib.Core.List.{List, [], _∷_, _++_}
 use mathlib.Core.Logic.{_⊎_}
 use Prim.Native.Nat.{ℕ, _<_}
-use lib.ListN.{length}
-use Rattle.subdivision.specs.Formula.{Formula, isEqual, Means}
+use Rattle.subdivision.specs.Formula.{Formula, Means}
 use Rattle.subdivision.specs.Sheet.{Sheet}
 use Rattle.subdivision.specs.Refusals.{Refusal, unnamed, limitRefusals, roomRefusal, ruleRefusals, trailRoom}
 use Rattle.subdivision.specs.Reading.{onSheet}
-use Rattle.subdivision.specs.Descent.{damages, indexDescent}
 
 -- the named item breaks the clause, and no lower one does
 pub record LowestFault (clause : ℕ → Formula) (items item : ℕ) : Type 0 where
@@ -29,6 +27,11 @@ abbrev pub GivenBy : List Refusal → ℕ → ℕ → Type 0
 GivenBy [] number item = ⊥
 GivenBy (r ∷ rs) number item = FaultOf r number item ⊎ (Means (r .kept) × GivenBy rs number item)
 
+-- no line's fault is there
+abbrev pub AllKept : List Refusal → Type 0
+AllKept [] = Unit {0}
+AllKept (r ∷ rs) = Means (r .kept) × AllKept rs
+
 -- the lines of the table that opening checks, in order: 1 to 13
 abbrev pub openingRefusals : Sheet → ℕ → List Refusal
 openingRefusals s words = limitRefusals s ++ (roomRefusal s words ∷ ruleRefusals s)
@@ -41,12 +44,7 @@ tableRefusals s = limitRefusals s ++ ruleRefusals s
 abbrev pub readingRefusals : Sheet → ℕ → ℕ → List Refusal
 readingRefusals s x y = tableRefusals s ++ (unnamed 20 (onSheet s x y) ∷ [])
 
--- the lines of the table that the quick search checks, in order: 1, 2, 3, 20, 21, and 22 as it goes, which is given where the descent over the words of the index ends without an answer
-abbrev pub searchRefusals : Sheet → List ℕ → ℕ → ℕ → ℕ → List Refusal
-searchRefusals s index x y places =
-    limitRefusals s
-    ++ (roomRefusal s (length index)
-    ∷ unnamed 20 (onSheet s x y)
-    ∷ unnamed 21 (trailRoom s places)
-    ∷ unnamed 22 (isEqual (damages (indexDescent s index x y)) 0)
-    ∷ [])
+-- the lines of the table that the quick search checks before it reads a word of the index, in order: 1, 2, 3, 20, 21
+abbrev pub searchRefusals : Sheet → ℕ → ℕ → ℕ → ℕ → List Refusal
+searchRefusals s words x y places =
+    limitRefusals s ++ (roomRefusal s words ∷ unnamed 20 (onSheet s x y) ∷ unnamed 21 (trailRoom s places) ∷ [])

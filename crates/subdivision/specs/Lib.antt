@@ -18,6 +18,7 @@ pub mod Reading
 pub mod Placed
 pub mod Index
 pub mod Descent
+pub mod Damage
 pub mod Engine
 pub mod Calls
 pub mod Answers

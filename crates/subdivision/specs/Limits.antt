@@ -13,6 +13,10 @@ maxEdges = 2048
 abbrev pub maxZones : ℕ
 maxZones = 1024
 
+-- a search examines at most so many edges: the bit length of maxZones - 1
+abbrev pub maxExamined : ℕ
+maxExamined = 10
+
 -- margins and coordinates lie in -1,000,000 to 1,000,000
 abbrev pub reach : ℕ
 reach = 1000000

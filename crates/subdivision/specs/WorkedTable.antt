@@ -57,7 +57,7 @@ pub record Row : Type 0 where
 -- the row as the definitions compute it
 unfoldable pub computed : List ℕ → Case → Row
 computed lent c =
-    record { plain = reading lens (c .x) (c .y); published = searchEnded lens (publishedDescent lens (shifted (c .x)) (shifted (c .y))) lent; quick = searching lens lensIndex (c .x) (c .y) lent }
+    record { plain = reading lens (c .x) (c .y); published = searchEnded (publishedDescent lens (shifted (c .x)) (shifted (c .y))) lent; quick = searching lens lensIndex (c .x) (c .y) lent }
 
 -- the answer, trail and probes of document 01
 unfoldable pub searched : List ℕ → Case → Searched

@@ -6,19 +6,12 @@ use native.Mathlib.Nat.{not-suc-le-zero, zero-lt-suc, add-zero}
 use native.Mathlib.Omega.{arith}
 use lib.Arith.{bin-ind}
 use lib.Bits.{bitAnd, and-step, and-self}
-use Rattle.subdivision.specs.Dyadic.{bits, topBit, lowBit, lca}
+use Rattle.subdivision.specs.Dyadic.{bits, topBit, lowBit, leftSon, rightSon, lca}
 use Rattle.theory.proofs.Dyadic.{le-or-lt, bits-half, bits-le, lt-pow-bits, topBit-small, topBit-half, topBit-above, topBit-pos, lowBit-odd, lowBit-even, lca-next, lca-halves}
 
 -- the places from k less its lowest bit up to before k plus it
 abbrev pub InBlock : ℕ → ℕ → Type 0
 InBlock k p = (k - lowBit k ≤ p) × (p < k + lowBit k)
-
--- the sons of k
-abbrev pub leftSon : ℕ → ℕ
-leftSon k = k - lowBit k / 2
-
-abbrev pub rightSon : ℕ → ℕ
-rightSon k = k + lowBit k / 2
 
 even-or-odd : (k : ℕ) → (k % 2 ≡ 0) ⊎ (k % 2 ≡ 1)
 even-or-odd k = ⊎-elim (λ l. inl (omega arith)) (λ l. inr (omega arith)) (le-or-lt (k % 2) 0)
@@ -31,14 +24,6 @@ lowBit-zero = refl
 
 lowBit-twice : (b : ℕ) → lowBit (2 * b) ≡ 2 * lowBit b
 lowBit-twice b = let half : 2 * b / 2 ≡ b = omega arith in lowBit-even (2 * b) (omega arith) ∙ rw half
-
-pub lowBit-pos : (k : ℕ) → 0 < k → 0 < lowBit k
-lowBit-pos =
-    bin-ind (λ (k : ℕ). 0 < k → 0 < lowBit k) (λ h. absurd (not-suc-le-zero h)) λ k below h.
-    ⊎-elim
-    (λ even. omega (arith, lowBit-even k even, below (omega arith)))
-    (λ odd. omega (arith, lowBit-odd k odd))
-    (even-or-odd k)
 
 pub lowBit-le : (k : ℕ) → lowBit k ≤ k
 lowBit-le =

@@ -11,22 +11,23 @@ use borrow.Author.Tests.{lt-ltb, le-ltb}
 use Rattle.subdivision.specs.declared.Look.the-variants.{West, Covering, Beyond}
 use Rattle.subdivision.specs.declared.Probed.the-variants.{Covered}
 use Rattle.subdivision.specs.Accepted.{Accepted}
-use Rattle.subdivision.specs.Descent.{look, probe, tableLookUps}
+use Rattle.subdivision.specs.Descent.{look, probeChain, tableLookUps}
 use Rattle.subdivision.specs.Index.{placeOf, chainOf, startOf, entryAt}
 use Rattle.subdivision.specs.Lines.{covers}
 use Rattle.subdivision.specs.Order.{Before, SortedBelow, inOrder}
-use Rattle.subdivision.specs.Placed.{OnSheet, Covers}
-use Rattle.subdivision.specs.Sheet.{Sheet, westMargin, eastMargin, edgeCount, zoneCount, xOf, westOf, eastOf, aboveOf, belowOf, segment}
+use Rattle.subdivision.specs.Placed.{Covers}
+use Rattle.subdivision.specs.Sheet.{Sheet, westMargin, eastMargin, edgeCount, xOf, westOf, eastOf, aboveOf, belowOf, segment}
 use Rattle.theory.proofs.Chains.{edgeKey, start-is-group, chains-are-sorted, accepted-line, accepted-above, accepted-west}
-use Rattle.theory.proofs.ColumnOrder.{one-separator}
+use Rattle.theory.proofs.Columns.{Kept}
 use Rattle.theory.proofs.Decide.{held, fails}
-use Rattle.theory.proofs.Drawn.{accepted-drawn}
+use Rattle.theory.proofs.Drawn.{accepted-drawn, drawingOf}
 use Rattle.theory.proofs.DrawnRules.{drawn-kept}
 use Rattle.theory.proofs.Dyadic.{lca-le, lca-above}
 use Rattle.theory.proofs.Groups.{groupStart, group, group-start-le, group-start-rises, before-group, from-group, length-group, getD-group, group-holds}
 use Rattle.theory.proofs.Order.{before-irrefl, sorted-below}
 use Rattle.theory.proofs.Places.{place-rises}
 use Rattle.theory.proofs.Probes.{probe-finds}
+use Rattle.theory.proofs.Separators.{separator-one}
 
 module _ (s : Sheet) (a : Accepted s) where
   -- ---- the entries of a chain
@@ -45,15 +46,17 @@ module _ (s : Sheet) (a : Accepted s) where
   unfolding entryAt
   entry-in-order t = ap (λ (l : List ℕ). getD l t 0) (chains-are-sorted s (accepted-west s a) (accepted-line s a) (accepted-above s a))
 
+  -- the next chain starts at the same entry or a later one
   pub start-rises : (k : ℕ) → startOf s k ≤ startOf s (k + 1)
   start-rises k = rw (add-one k, start-in-order k, start-in-order (suc k)) (group-start-rises (edgeKey s) order k)
 
-  pub start-most : (k : ℕ) → k ≤ zoneCount s → startOf s k ≤ edgeCount s
-  start-most k h = omega (arith, start-in-order k, group-start-le (edgeKey s) order k, in-order .long)
+  -- no chain starts past the edges
+  pub start-within : (k : ℕ) → startOf s k ≤ edgeCount s
+  start-within k = omega (arith, start-in-order k, group-start-le (edgeKey s) order k, in-order .long)
 
   -- an entry of chain k is an edge of it
-  pub entry-in-chain : (k t : ℕ) → k < zoneCount s → startOf s k ≤ t → t < startOf s (k + 1) → (entryAt s t < edgeCount s) × (chainOf s (entryAt s t) ≡ k)
-  entry-in-chain k t h low high = rw (entry-in-order t) (edge, same)
+  pub entry-in-chain : (k t : ℕ) → startOf s k ≤ t → t < startOf s (k + 1) → (entryAt s t < edgeCount s) × (chainOf s (entryAt s t) ≡ k)
+  entry-in-chain k t low high = rw (entry-in-order t) (edge, same)
     where
       from : groupStart (edgeKey s) order k ≤ t
       from = rw (start-in-order k) at low
@@ -88,20 +91,23 @@ module _ (s : Sheet) (a : Accepted s) where
   -- ---- from west to east
 
   -- an edge separates at its chain
-  pub chain-separates : (e : ℕ) → e < edgeCount s → (placeOf s (belowOf s e) < chainOf s e) × (chainOf s e ≤ placeOf s (aboveOf s e))
+  chain-separates : (e : ℕ) → e < edgeCount s → (placeOf s (belowOf s e) < chainOf s e) × (chainOf s e ≤ placeOf s (aboveOf s e))
   unfolding chainOf
   chain-separates e b =
       (lca-above (placeOf s (belowOf s e)) (placeOf s (aboveOf s e)) (place-rises s a e b), lca-le (placeOf s (belowOf s e)) (placeOf s (aboveOf s e)))
 
+  kept : Kept (drawingOf s)
+  kept = drawn-kept s (accepted-drawn s a)
+
   -- an edge runs to the east, between the margins
   inside : (e : ℕ) → e < edgeCount s
       → ((westMargin s ≤ xOf s (westOf s e)) × (xOf s (westOf s e) < xOf s (eastOf s e))) × (xOf s (eastOf s e) ≤ eastMargin s)
-  inside = drawn-kept s (accepted-drawn s a) .inside
+  inside = kept .inside
 
   -- of two edges of a chain that come in this order the first ends where the second starts, or west of it
-  before-eastward : (e f : ℕ) → e < edgeCount s → f < edgeCount s → chainOf s e ≡ chainOf s f → chainOf s f < zoneCount s → Before (edgeKey s) e f
+  before-eastward : (e f : ℕ) → e < edgeCount s → f < edgeCount s → chainOf s e ≡ chainOf s f → Before (edgeKey s) e f
       → xOf s (eastOf s e) ≤ xOf s (westOf s f)
-  before-eastward e f b c same high first = by-contra (xOf s (eastOf s e)) (xOf s (westOf s f)) apart
+  before-eastward e f b c same first = by-contra (xOf s (eastOf s e)) (xOf s (westOf s f)) apart
     where
       west : Before (edgeKey s) e f → xOf s (westOf s e) ≤ xOf s (westOf s f)
       west (inl d) = omega arith
@@ -112,20 +118,20 @@ module _ (s : Sheet) (a : Accepted s) where
         where
           one : e ≡ f
           one =
-              let only = one-separator s a (xOf s (westOf s f)) (chainOf s f) (inside f c .0 .0) (omega (arith, inside f c)) (omega (arith, chain-separates f c .0)) high in
-              only .2 e ((b, (west first, l)), rw same at (chain-separates e b)) ∙ sym (only .2 f ((c, (le-refl (xOf s (westOf s f)), inside f c .0 .1)), chain-separates f c))
+              separator-one (drawingOf s) kept (placeOf s) (place-rises s a) (xOf s (westOf s f)) (chainOf s f) e f
+              (b, (west first, l)) (c, (le-refl (xOf s (westOf s f)), inside f c .0 .1)) (rw same at (chain-separates e b)) (chain-separates f c)
 
   -- of two entries of a chain the earlier one ends where the later one starts, or west of it
-  pub entries-eastward : (k t u : ℕ) → k < zoneCount s → startOf s k ≤ t → t < u → u < startOf s (k + 1) → xOf s (eastOf s (entryAt s t)) ≤ xOf s (westOf s (entryAt s u))
-  entries-eastward k t u h low next high =
-      let e = entry-in-chain k t h low (omega arith) in
-      let f = entry-in-chain k u h (omega arith) high in
-      before-eastward (entryAt s t) (entryAt s u) (e .0) (f .0) (e .1 ∙ sym (f .1)) (omega (arith, f .1)) first
+  pub entries-eastward : (k t u : ℕ) → startOf s k ≤ t → t < u → u < startOf s (k + 1) → xOf s (eastOf s (entryAt s t)) ≤ xOf s (westOf s (entryAt s u))
+  entries-eastward k t u low next high =
+      let e = entry-in-chain k t low (omega arith) in
+      let f = entry-in-chain k u (omega arith) high in
+      before-eastward (entryAt s t) (entryAt s u) (e .0) (f .0) (e .1 ∙ sym (f .1)) first
     where
       first : Before (edgeKey s) (entryAt s t) (entryAt s u)
       first =
           rw (entry-in-order t, entry-in-order u)
-          (in-order .ascending t u next (omega (arith, rw (add-one k) at high, start-most (suc k) h)))
+          (in-order .ascending t u next (omega (arith, rw (add-one k) at high, start-within (suc k))))
 
   -- ---- the probes of a chain
 
@@ -134,14 +140,14 @@ module _ (s : Sheet) (a : Accepted s) where
   covers-from x e b (inl c) = c .0
   covers-from x e b (inr c) = omega (arith, inside e b, c)
 
-  looks-covering : (x y e : ℕ) → e < edgeCount s → Covers s x e → look s (tableLookUps s) x y e ≡ Covering
-  looks-covering x y e b c =
+  looks-covering : (x e : ℕ) → e < edgeCount s → Covers s x e → look s (tableLookUps s) x e ≡ Covering
+  looks-covering x e b c =
       rw (le-ltb x (xOf s (westOf s e)) (covers-from x e b c), look, held (covers (eastMargin s) (segment s e) x) c)
 
   -- an edge that ends where the covering one starts, or west of it, is beyond
-  looks-beyond : (x y e f : ℕ) → e < edgeCount s → f < edgeCount s → Covers s x e → xOf s (eastOf s f) ≤ xOf s (westOf s e)
-      → look s (tableLookUps s) x y f ≡ Beyond
-  looks-beyond x y e f b d c l =
+  looks-beyond : (x e f : ℕ) → e < edgeCount s → f < edgeCount s → Covers s x e → xOf s (eastOf s f) ≤ xOf s (westOf s e)
+      → look s (tableLookUps s) x f ≡ Beyond
+  looks-beyond x e f b d c l =
       rw (le-ltb x (xOf s (westOf s f)) started, look, fails (covers (eastMargin s) (segment s f) x) passed)
     where
       from : xOf s (westOf s e) ≤ x
@@ -155,23 +161,22 @@ module _ (s : Sheet) (a : Accepted s) where
       passed (inr p) = omega (arith, p, inside e b)
 
   -- an edge that starts where the covering one ends, or east of it, is not reached
-  looks-west : (x y e f : ℕ) → f < edgeCount s → Covers s x e → xOf s (eastOf s e) ≤ xOf s (westOf s f) → look s (tableLookUps s) x y f ≡ West
-  looks-west x y e f d c l = rw (lt-ltb x (xOf s (westOf s f)) (short c), look)
+  looks-west : (x e f : ℕ) → f < edgeCount s → Covers s x e → xOf s (eastOf s e) ≤ xOf s (westOf s f) → look s (tableLookUps s) x f ≡ West
+  looks-west x e f d c l = rw (lt-ltb x (xOf s (westOf s f)) (short c), look)
     where
       short : Covers s x e → x < xOf s (westOf s f)
       short (inl p) = omega (arith, p)
       short (inr p) = omega (arith, p, inside f d)
 
   -- the probes of a chain find its edge that covers x
-  pub chain-probed : (x y k e probes : ℕ) → OnSheet s x y → k < zoneCount s → e < edgeCount s → chainOf s e ≡ k → Covers s x e
-      → (q : ℕ) × (probe s (tableLookUps s) x y (startOf s (k + 1)) (startOf s k) (startOf s (k + 1)) probes ≡ Covered e q)
-  chain-probed x y k e probes on h b same c = go (chain-has-entry k e b same)
+  pub chain-probed : (x k e probes : ℕ) → e < edgeCount s → chainOf s e ≡ k → Covers s x e → (q : ℕ) × (probeChain s (tableLookUps s) x k probes ≡ Covered e q)
+  chain-probed x k e probes b same c = go (chain-has-entry k e b same)
     where
       go : (t : ℕ) × ((startOf s k ≤ t) × (t < startOf s (k + 1))) × (entryAt s t ≡ e)
-          → (q : ℕ) × (probe s (tableLookUps s) x y (startOf s (k + 1)) (startOf s k) (startOf s (k + 1)) probes ≡ Covered e q)
+          → (q : ℕ) × (probeChain s (tableLookUps s) x k probes ≡ Covered e q)
       go (t, (low, high), i) =
           rw i at
-          (probe-finds s (tableLookUps s) x y t (startOf s (k + 1)) (startOf s k) (startOf s (k + 1)) probes low high (omega arith)
-          (rw i (looks-covering x y e b c))
-          (λ u from next. looks-beyond x y e (entryAt s u) b (entry-in-chain k u h from (omega arith) .0) c (rw i at (entries-eastward k u t h from next high)))
-          (λ u next to. looks-west x y e (entryAt s u) (entry-in-chain k u h (omega arith) to .0) c (rw i at (entries-eastward k t u h low next to))))
+          (probe-finds s (tableLookUps s) x t (startOf s (k + 1)) (startOf s k) (startOf s (k + 1)) probes low high (omega arith)
+          (rw i (looks-covering x e b c))
+          (λ u from next. looks-beyond x e (entryAt s u) b (entry-in-chain k u from (omega arith) .0) c (rw i at (entries-eastward k u t from next high)))
+          (λ u next to. looks-west x e (entryAt s u) (entry-in-chain k u (omega arith) to .0) c (rw i at (entries-eastward k t u low next to))))

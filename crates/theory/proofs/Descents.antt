@@ -8,16 +8,17 @@ use native.Mathlib.Nat.{le-refl, le-trans, suc-add, mul-le-mul-right}
 use native.Mathlib.Decide.{decLt}
 use native.Mathlib.Omega.{arith}
 use lib.Dec.{leb, ltb}
-use lib.ListN.{length, length-append}
+use lib.ListN.{length}
 use borrow.Author.Tests.{lt-ltb, le-ltb, le-leb, lt-leb}
 use Rattle.subdivision.specs.declared.Answer.{Answer}
-use Rattle.subdivision.specs.Dyadic.{bits, topBit, lowBit}
+use Rattle.subdivision.specs.Dyadic.{bits, topBit, lowBit, leftSon, rightSon}
 use Rattle.subdivision.specs.Sheet.{Sheet, edgeCount, zoneCount, aboveOf, belowOf}
-use Rattle.subdivision.specs.Descent.{LookUps, Descent, Turn, onward, answered, damaged, start, turn, turns, indexLookUps, indexDescent, descent}
-use Rattle.theory.proofs.Blocks.{InBlock, leftSon, rightSon, left-block, right-block, top-block, lowBit-top, bits-top, bits-pos, bits-twice, bits-mono}
+use Rattle.subdivision.specs.Descent.{LookUps, Descent, Turn, onward, answered, damaged, start, toChain, past, turn, turns, indexLookUps, indexDescent, descent}
+use Rattle.theory.proofs.Blocks.{InBlock, left-block, right-block, top-block, lowBit-top, bits-top, bits-pos, bits-twice, bits-mono}
 use Rattle.theory.proofs.Dyadic.{topBit-le, topBit-pos}
+use Rattle.theory.proofs.Position.{length-snoc}
 use Rattle.theory.proofs.Probes.{probe-found}
-use Rattle.theory.proofs.Turns.{Examines, Onward, leftward, rightward, above, below, Answers, arrival, landing, past, turn-onward, turn-answered}
+use Rattle.theory.proofs.Turns.{Examines, Onward, leftward, rightward, above, below, Answers, arrival, landing, turn-onward, turn-answered}
 
 -- the turns that a descent has left at most
 abbrev pub turnsLeft : Descent → ℕ
@@ -98,23 +99,19 @@ module _ (s : Sheet) where
   -- a turn that goes onward, as far as the counts are concerned: k goes to a son, or an edge of chain k puts i at or past k or j before k
   data Step (d next : Descent) : Type 0 where
     toSon : (k : ℕ) → d .i < d .j → (d .j < d .k) ⊎ (d .k ≤ d .i) → InBlock k (d .i) × InBlock k (d .j) → lowBit (d .k) ≡ 2 * lowBit k
-        → next ≡ record { i = d .i; j = d .j; k = k; trail = d .trail; probes = d .probes } → Step d next
+        → next ≡ toChain d k → Step d next
     toEdge : (e q i j : ℕ) → d .i < d .k → d .k ≤ d .j → d .i ≤ i → i ≤ j → j ≤ d .j → (j < d .k) ⊎ (d .k ≤ i) → q ≤ d .probes + bits (edgeCount s)
         → next ≡ past d e q i j → Step d next
-
-  -- an edge more is counted
-  longer : (d : Descent) (e q i j : ℕ) → length (past d e q i j .trail) ≡ suc (length (d .trail))
-  longer d e q i j = rw length-append (omega arith)
 
   -- the counts past an edge of chain k
   past-counts : (d : Descent) (e q i j : ℕ) → Sound d → d .i < d .k → d .k ≤ d .j → q ≤ d .probes + bits (edgeCount s)
       → Bounded (past d e q i j)
   past-counts d e q i j h l u p =
-      rw (longer d e q i j)
+      rw (length-snoc e (d .trail))
       (omega (arith, h .level l u, bits-pos (lowBit (d .k)) (lowBit-there d h (omega arith))), omega (arith, h .probed))
 
   son-sound : (d : Descent) (k : ℕ) → Sound d → InBlock k (d .i) × InBlock k (d .j) → lowBit (d .k) ≡ 2 * lowBit k
-      → Sound (record { i = d .i; j = d .j; k = k; trail = d .trail; probes = d .probes })
+      → Sound (toChain d k)
   son-sound d k h b half =
       record { ordered = h .ordered; inside = h .inside; blocked = λ l. b; counted = h .counted; levels = omega (arith, low); level = λ l u. low; probed = h .probed }
     where
@@ -129,7 +126,7 @@ module _ (s : Sheet) where
         inside = omega (arith, h .inside);
         blocked = λ m. ((omega (arith, b .0 .0), omega (arith, b .1 .1)), (omega (arith, b .0 .0), omega (arith, b .1 .1)));
         counted = past-counts d e q i j h l u p .0;
-        levels = rw (longer d e q i j) (omega (arith, h .level l u));
+        levels = rw (length-snoc e (d .trail)) (omega (arith, h .level l u));
         level = λ m n. absurd (⊎-elim (λ c. omega arith) (λ c. omega arith) side);
         probed = past-counts d e q i j h l u p .1;
       }
@@ -144,19 +141,20 @@ module _ (s : Sheet) where
   step-falls : (d next : Descent) → Sound d → Step d next → turnsLeft next < turnsLeft d
   step-falls d next h (toSon k l side b half e) =
       rw (e, left-aside d l side)
-      (omega (arith, half, b .0 .0, b .0 .1, left-about (record { i = d .i; j = d .j; k = k; trail = d .trail; probes = d .probes }) l .1))
+      (omega (arith, half, b .0 .0, b .0 .1, left-about (toChain d k) l .1))
   step-falls d next h (toEdge e q i j l u f o g side p n) =
       rw (n, left-between d l u)
       (by-cases (decLt i j) (λ m. rw (left-aside (past d e q i j) m side) (omega arith)) (λ m. rw (left-arrived (past d e q i j) (omega (arith, m))) (omega (arith, lowBit-there d h (omega arith)))))
 
 module _ (s : Sheet) (index : List ℕ) (x y : ℕ) where
+  -- the words of the index as look-ups
   abbrev w : LookUps
   w = indexLookUps s index
 
   -- the probes of a chain are as many as the bits of m at most
   few-probes : (d : Descent) (e q : ℕ) → Examines s w x y d e q → q ≤ d .probes + bits (edgeCount s)
   few-probes d e q f =
-      omega (arith, probe-found s w x y (w .start (d .k + 1)) (w .start (d .k)) (w .start (d .k + 1)) (d .probes) e q (f .probed) .2 .1 .1, bits-mono (w .start (d .k + 1) - w .start (d .k)) (edgeCount s) (omega (arith, f .starts refl .0 .1)))
+      omega (arith, probe-found s w x (w .start (d .k + 1)) (w .start (d .k)) (w .start (d .k + 1)) (d .probes) e q (f .probed) .2 .1 .1, bits-mono (w .start (d .k + 1) - w .start (d .k)) (edgeCount s) (omega (arith, f .starts refl .0 .1)))
 
   turn-step : (d next : Descent) → Sound s d → turn s w x y d ≡ onward next → Step s d next
   turn-step d next h e = go (turn-onward s w x y d next e)

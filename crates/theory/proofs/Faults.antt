@@ -5,22 +5,20 @@ use mathlib.Core.List.{List, [], _∷_, _++_}
 use mathlib.Core.Logic.{inl, inr, _↔_}
 use Prim.Native.Nat.{ℕ, _<_, _≤_}
 use native.Mathlib.Omega.{arith}
-use lib.ListN.{length}
 use Rattle.subdivision.specs.declared.Verdict.{Verdict}
-use Rattle.subdivision.specs.Formula.{Formula, isEqual, holds, Means}
+use Rattle.subdivision.specs.Formula.{Formula, holds, Means}
 use Rattle.subdivision.specs.Lowest.{lowest}
 use Rattle.subdivision.specs.Sheet.{Sheet, vertexCount, edgeCount, zoneCount, aboveOf, belowOf}
 use Rattle.subdivision.specs.Rules.{vertexInside, vertexNew, edgeNames, edgeRuns, zonesDiffer, vertexRegular, edgeClear, namesAgree, zoneNamed}
 use Rattle.subdivision.specs.Layout.{indexNeed}
 use Rattle.subdivision.specs.ZoneLine.{isIn, zoneLine}
 use Rattle.subdivision.specs.Refusals.{Refusal, names, unnamed, forEach, judged, countsKept, marginsKept, limitRefusals, roomRefusal, circleRefusal, ruleRefusals, trailRoom}
-use Rattle.subdivision.specs.Faults.{LowestFault, Named, GivenBy, openingRefusals, tableRefusals, readingRefusals, searchRefusals}
+use Rattle.subdivision.specs.Faults.{LowestFault, Named, GivenBy, AllKept, openingRefusals, tableRefusals, readingRefusals, searchRefusals}
 use Rattle.subdivision.specs.Accepted.{Accepted}
 use Rattle.subdivision.specs.Reading.{onSheet}
-use Rattle.subdivision.specs.Descent.{damages, indexDescent}
 use Rattle.theory.proofs.Decide.{means, held, denies, fails}
 use Rattle.theory.proofs.Lowest.{is-lowest, lowest-le}
-use Rattle.theory.proofs.Judgement.{AllKept, passed-keeps, kept-passes, none-named, lowest-fault, names-lowest, accepted-decides}
+use Rattle.theory.proofs.Judgement.{passed-keeps, kept-passes, none-named, lowest-fault, names-lowest, accepted-decides}
 use Rattle.theory.proofs.Circles.{line-full, circle-named}
 
 -- an item that a line names is the one that the judgement names
@@ -112,18 +110,18 @@ module _ (s : Sheet) where
   reading-refused-exactly x y =
       given-exactly (readingRefusals s x y) (sound-append (tableRefusals s) (unnamed 20 (onSheet s x y) ∷ []) table-sound (λ f. unnamed-sound 20 (onSheet s x y), λ k. tt))
 
-  -- each refusal of the quick search is given exactly when its own line says so
-  pub search-judged-exactly : (index : List ℕ) (x y places number item : ℕ)
-      → (judged (searchRefusals s index x y places) ≡ Verdict.Refused number item) ↔ GivenBy (searchRefusals s index x y places) number item
-  search-judged-exactly index x y places =
-      given-exactly (searchRefusals s index x y places)
-      (λ f. unnamed-sound 1 (countsKept s), λ k1. (λ f. unnamed-sound 2 (marginsKept s), λ k2. (λ f. unnamed-sound 3 (roomRefusal s (length index) .kept), λ k3. (λ f. unnamed-sound 20 (onSheet s x y), λ k20. (λ f. unnamed-sound 21 (trailRoom s places), λ k21. (λ f. unnamed-sound 22 (isEqual (damages (indexDescent s index x y)) 0), λ k22. tt))))))
-
   module _ (words : ℕ) where
     -- each refusal of opening is given exactly when its own line says so
     pub refused-exactly : (number item : ℕ) → (judged (openingRefusals s words) ≡ Verdict.Refused number item) ↔ GivenBy (openingRefusals s words) number item
     refused-exactly =
         given-exactly (openingRefusals s words) (sound-append (limitRefusals s) (roomRefusal s words ∷ ruleRefusals s) limits-sound (λ f. unnamed-sound 3 (roomRefusal s words .kept), λ k. rules-sound))
+
+    -- of the lines that the quick search checks first, each gives its refusal exactly when it says so
+    pub search-judged-exactly : (x y places number item : ℕ)
+        → (judged (searchRefusals s words x y places) ≡ Verdict.Refused number item) ↔ GivenBy (searchRefusals s words x y places) number item
+    search-judged-exactly x y places =
+        given-exactly (searchRefusals s words x y places)
+        (sound-append (limitRefusals s) (roomRefusal s words ∷ unnamed 20 (onSheet s x y) ∷ unnamed 21 (trailRoom s places) ∷ []) limits-sound (λ f. unnamed-sound 3 (roomRefusal s words .kept), λ k3. (λ f. unnamed-sound 20 (onSheet s x y), λ k20. (λ f. unnamed-sound 21 (trailRoom s places), λ k21. tt))))
 
     -- a sheet is opened exactly when it is accepted and the index has room
     pub opened-exactly : (judged (openingRefusals s words) ≡ Verdict.Passed) ↔ (Accepted s × (indexNeed (zoneCount s) (edgeCount s) ≤ words))

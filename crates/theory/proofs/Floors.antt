@@ -16,7 +16,7 @@ use Rattle.subdivision.specs.Accepted.{Accepted}
 use Rattle.subdivision.specs.Index.{placeOf, zoneAt}
 use Rattle.subdivision.specs.Reading.{isVertex, firstZone, readingLine, zoneBeneath, plainReading}
 use Rattle.subdivision.specs.Placed.{OnSheet, IsOn, OffVertices, OffEdges, Covers, Under, Over}
-use Rattle.subdivision.specs.Descent.{LookUps, onEdge}
+use Rattle.subdivision.specs.Descent.{onEdge}
 use Rattle.theory.proofs.Chains.{accepted-above}
 use Rattle.theory.proofs.ColumnFans.{fanSide, has-fan, fan-crosses, fan-level}
 use Rattle.theory.proofs.ColumnNeighbours.{lower-on-half}
@@ -49,7 +49,6 @@ module _ (s : Sheet) (x y : ℕ) where
   pub below-is-over : (e : ℕ) → sideAt (segment s e) x y ≡ Below → Over s x y e
   below-is-over = side-says
 
-module _ (s : Sheet) (a : Accepted s) (x y : ℕ) (o : OnSheet s x y) where
   -- place i is the first, or that of the zone above an edge that covers x strictly below the point
   abbrev pub Floor : ℕ → Type 0
   Floor i = (i ≡ 0) ⊎ ((g : ℕ) × ((g < edgeCount s) × (Covers s x g × Under s x y g)) × (i ≡ placeOf s (aboveOf s g)))
@@ -58,6 +57,7 @@ module _ (s : Sheet) (a : Accepted s) (x y : ℕ) (o : OnSheet s x y) where
   abbrev pub Ceiling : ℕ → Type 0
   Ceiling j = (j ≡ zoneCount s - 1) ⊎ ((g : ℕ) × ((g < edgeCount s) × (Covers s x g × Over s x y g)) × (j ≡ placeOf s (belowOf s g)))
 
+module _ (s : Sheet) (a : Accepted s) (x y : ℕ) (o : OnSheet s x y) where
   scale : OneScale s
   scale = one-scale s (a .two)
 
@@ -106,7 +106,7 @@ module _ (s : Sheet) (a : Accepted s) (x y : ℕ) (o : OnSheet s x y) where
       (e .0, (e .1 .0, seen-covering (e .0) (e .1)), e .2)
 
   -- its places lie between a floor below k and a ceiling from k on
-  pub separating-between : (i j k e : ℕ) → Floor i → Ceiling j → i < k → k ≤ j → e < edgeCount s → Covers s x e
+  pub separating-between : (i j k e : ℕ) → Floor s x y i → Ceiling s x y j → i < k → k ≤ j → e < edgeCount s → Covers s x e
       → placeOf s (belowOf s e) < k → k ≤ placeOf s (aboveOf s e)
       → (i ≤ placeOf s (belowOf s e)) × (placeOf s (aboveOf s e) ≤ j)
   separating-between i j k e floor ceiling l h b c m n = (over floor, under ceiling)
@@ -114,7 +114,7 @@ module _ (s : Sheet) (a : Accepted s) (x y : ℕ) (o : OnSheet s x y) where
       seen : Seen e
       seen = covering-seen e b c
 
-      over : Floor i → i ≤ placeOf s (belowOf s e)
+      over : Floor s x y i → i ≤ placeOf s (belowOf s e)
       over (inl z) = omega arith
       over (inr (g, (d, (r, u)), q)) = by-contra i (placeOf s (belowOf s e)) at-floor
         where
@@ -123,7 +123,7 @@ module _ (s : Sheet) (a : Accepted s) (x y : ℕ) (o : OnSheet s x y) where
               let one = seen-one i e g seen (covering-seen g d r) (v, omega arith) (omega (arith, place-rises s a g d), omega arith) in
               omega (arith, ap (λ f. placeOf s (aboveOf s f)) one)
 
-      under : Ceiling j → placeOf s (aboveOf s e) ≤ j
+      under : Ceiling s x y j → placeOf s (aboveOf s e) ≤ j
       under (inl z) = omega (arith, place-within s a (aboveOf s e) (accepted-above s a e b))
       under (inr (g, (d, (r, u)), q)) = by-contra (placeOf s (aboveOf s e)) j at-ceiling
         where
@@ -135,13 +135,13 @@ module _ (s : Sheet) (a : Accepted s) (x y : ℕ) (o : OnSheet s x y) where
   -- ---- where the floor is the ceiling
 
   -- a floor is at most at the zone below an edge that is not under the point
-  floor-at-most : (i e : ℕ) → Floor i → Seen e → level s y ≤ here e → i ≤ placeOf s (belowOf s e)
+  floor-at-most : (i e : ℕ) → Floor s x y i → Seen e → level s y ≤ here e → i ≤ placeOf s (belowOf s e)
   floor-at-most i e (inl z) j l = omega arith
   floor-at-most i e (inr (g, (b, (c, u)), q)) j l =
       omega (arith, lower-rises g e (covering-seen g b c) j (omega (arith, scale .under-level g x y b .0 u)))
 
   -- a ceiling is at least at the zone above an edge that is not over the point
-  ceiling-at-least : (i e : ℕ) → Ceiling i → Seen e → here e ≤ level s y → placeOf s (aboveOf s e) ≤ i
+  ceiling-at-least : (i e : ℕ) → Ceiling s x y i → Seen e → here e ≤ level s y → placeOf s (aboveOf s e) ≤ i
   ceiling-at-least i e (inl z) j l = omega (arith, place-within s a (aboveOf s e) (accepted-above s a e (j .0)))
   ceiling-at-least i e (inr (g, (b, (c, u)), q)) j l =
       omega (arith, lower-rises e g j (covering-seen g b c) (omega (arith, scale .over-level g x y b .0 u)))
@@ -157,7 +157,7 @@ module _ (s : Sheet) (a : Accepted s) (x y : ℕ) (o : OnSheet s x y) where
           (e .0, fan-crosses s (a .two) eastern c v (e .0) q (e .1), fan-level s (a .two) eastern (fanSide eastern c) v (e .0) q (e .1))
 
   -- a place that is both
-  module _ (i : ℕ) (floor : Floor i) (ceiling : Ceiling i) where
+  module _ (i : ℕ) (floor : Floor s x y i) (ceiling : Ceiling s x y i) where
     -- no edge of the column has the point's level
     off-level : (e : ℕ) → Seen e → here e ≡ level s y → ⊥
     off-level e j q =
@@ -177,7 +177,7 @@ module _ (s : Sheet) (a : Accepted s) (x y : ℕ) (o : OnSheet s x y) where
     highest-at-floor : (e : ℕ) → HighestUnder (drawingOf s) (view .column) here (level s y) e → i ≡ placeOf s (aboveOf s e)
     highest-at-floor e ((j, u), top) = omega (arith, at-most floor, ceiling-at-least i e ceiling j (le-of-lt u))
       where
-        at-most : Floor i → i ≤ placeOf s (aboveOf s e)
+        at-most : Floor s x y i → i ≤ placeOf s (aboveOf s e)
         at-most (inl z) = omega arith
         at-most (inr (g, (b, (c, v)), q)) =
             let k = covering-seen g b c in
@@ -190,7 +190,7 @@ module _ (s : Sheet) (a : Accepted s) (x y : ℕ) (o : OnSheet s x y) where
     bare-floor : ((g : ℕ) → Seen g → here g < level s y → ⊥) → i ≡ placeOf s (firstZone s)
     bare-floor none = go floor
       where
-        go : Floor i → i ≡ placeOf s (firstZone s)
+        go : Floor s x y i → i ≡ placeOf s (firstZone s)
         go (inl z) = z ∙ sym (first-has-place-0 s a)
         go (inr (g, (b, (c, u)), q)) = absurd (none g (covering-seen g b c) (scale .under-level g x y b .0 u))
 
@@ -210,8 +210,8 @@ module _ (s : Sheet) (a : Accepted s) (x y : ℕ) (o : OnSheet s x y) where
   -- ---- on an examined edge
 
   -- of a covering edge on which the point lies, the end at the point, or the edge itself, is the plain reading
-  pub on-edge-plain : (w : LookUps) (e : ℕ) → e < edgeCount s → Covers s x e → sideAt (segment s e) x y ≡ On → onEdge s w x y e ≡ plainReading s x y
-  on-edge-plain w e b c h = go (holds (isVertex s x y (westOf s e))) (holds (isVertex s x y (eastOf s e))) refl refl
+  pub on-edge-plain : (e : ℕ) → e < edgeCount s → Covers s x e → sideAt (segment s e) x y ≡ On → onEdge s x y e ≡ plainReading s x y
+  on-edge-plain e b c h = go (holds (isVertex s x y (westOf s e))) (holds (isVertex s x y (eastOf s e))) refl refl
     where
       on : IsOn s x y e
       on = view-on s a view y e (covering-seen e b c) (scale .on-level e x y b .0 (side-says s x y e h))

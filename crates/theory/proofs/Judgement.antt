@@ -13,15 +13,10 @@ use Rattle.subdivision.specs.Lowest.{lowest}
 use Rattle.subdivision.specs.Sheet.{Sheet}
 use Rattle.subdivision.specs.Refusals.{Refusal, names, unnamed, forEach, judged, limitRefusals, ruleRefusals}
 use Rattle.subdivision.specs.Accepted.{Accepted}
-use Rattle.subdivision.specs.Faults.{LowestFault}
+use Rattle.subdivision.specs.Faults.{LowestFault, AllKept}
 use Rattle.theory.proofs.Decide.{means, held, denies, fails, broken-item}
 use Rattle.theory.proofs.Lowest.{lowest-before, lowest-passes, lowest-at-most, lowest-le}
 use Rattle.theory.proofs.ZoneLine.{line-decides}
-
--- no refusal's fault is there
-abbrev pub AllKept : List Refusal → Type 0
-AllKept [] = Unit {0}
-AllKept (r ∷ rs) = Means (r .kept) × AllKept rs
 
 pub passed-keeps : (rs : List Refusal) → judged rs ≡ Verdict.Passed → AllKept rs
 passed-keeps [] e = tt

@@ -13,6 +13,7 @@ pub mod ColumnReadings
 pub mod Columns
 pub mod Counting
 pub mod Crossings
+pub mod Damages
 pub mod Decide
 pub mod Descents
 pub mod Drawn
@@ -44,6 +45,7 @@ pub mod Order
 pub mod Overlaps
 pub mod Places
 pub mod Position
+pub mod ProbeFaults
 pub mod Probes
 pub mod ReadFrom
 pub mod Readings

@@ -4,16 +4,20 @@ use mathlib.Core.Bool.{true, false, false≢true}
 use mathlib.Core.Logic.{_⊎_, inl, inr, ⊎-elim}
 use Prim.Native.Nat.{ℕ, _*_, _<_}
 use native.Mathlib.Nat.{eq-or-lt-of-le, mul-one}
+use lib.IntN.{ℤ}
 use Rattle.subdivision.specs.declared.Answer.{Answer}
 use Rattle.subdivision.specs.declared.Answer.the-variants.{Vertex, Edge, Zone}
-use Rattle.subdivision.specs.Sheet.{Sheet, vertexCount, edgeCount, zoneCount, xOf, yOf, westOf, eastOf, segment}
+use Rattle.subdivision.specs.Sheet.{Sheet, shifted, vertexCount, edgeCount, zoneCount, xOf, yOf, westOf, eastOf, segment}
 use Rattle.subdivision.specs.Lines.{edgePart, isOn}
 use Rattle.subdivision.specs.Accepted.{Accepted}
-use Rattle.subdivision.specs.Reading.{isVertex, zoneBeneath, plainReading}
+use Rattle.subdivision.specs.Reading.{onSheet, isVertex, zoneBeneath, plainReading}
+use Rattle.subdivision.specs.Calls.{reading}
 use Rattle.subdivision.specs.Placed.{OnSheet, IsVertex, IsOn, OffVertices, OffEdges, InOneThing, ReadBeneath}
 use Rattle.theory.proofs.Chains.{accepted-above}
 use Rattle.theory.proofs.ColumnFans.{fan-level}
 use Rattle.theory.proofs.Crossings.{IsEnd}
+use Rattle.theory.proofs.Decide.{held}
+use Rattle.theory.proofs.Judgement.{accepted-decides}
 use Rattle.theory.proofs.Scale.{scaled, level, OneScale}
 use Rattle.theory.proofs.Scaling.{one-scale}
 use Rattle.theory.proofs.NoCrossing.{no-crossing}
@@ -98,3 +102,8 @@ module _ (s : Sheet) (a : Accepted s) where
 
       zone : zoneBeneath s x y < zoneCount s
       zone = read-below x y (zoneBeneath s x y) (zone-beneath-read s a x y o (zoneBeneath s x y) .1 refl)
+
+  -- the call of the plain reading gives it for every point that is on the sheet
+  pub accepted-reads : (x y : ℤ) → OnSheet s (shifted x) (shifted y) → reading s x y ≡ plainReading s (shifted x) (shifted y)
+  unfolding reading
+  accepted-reads x y o = rw (accepted-decides s .1 a, held (onSheet s (shifted x) (shifted y)) o, reading)

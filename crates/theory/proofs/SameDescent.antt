@@ -3,7 +3,7 @@ use mathlib.Core.Path.{_≡_, refl, sym, ap, _∙_}
 use mathlib.Core.Bool.{Bool, true, false}
 use mathlib.Core.List.{List, [], _∷_, _++_}
 use mathlib.Core.Logic.{_⊎_, inl, inr, ⊎-elim, by-cases}
-use Prim.Native.Nat.{ℕ, zero, suc, _+_, _*_, _<_, _≤_}
+use Prim.Native.Nat.{ℕ, zero, suc, _*_, _<_, _≤_}
 use native.Mathlib.Nat.{le-refl, not-suc-le-zero}
 use native.Mathlib.Decide.{decLt}
 use native.Mathlib.Omega.{arith}
@@ -16,23 +16,23 @@ use Rattle.subdivision.specs.declared.Probed.the-variants.{Covered}
 use Rattle.subdivision.specs.declared.Side.{Side}
 use Rattle.subdivision.specs.declared.Side.the-variants.{Below, On, Above}
 use Rattle.subdivision.specs.Formula.{isLess, isAtMost}
+use Rattle.subdivision.specs.Dyadic.{leftSon, rightSon}
 use Rattle.subdivision.specs.Sheet.{Sheet, edgeCount, zoneCount, aboveOf, belowOf, segment}
 use Rattle.subdivision.specs.Lines.{sideAt}
 use Rattle.subdivision.specs.Accepted.{Accepted}
 use Rattle.subdivision.specs.Placed.{OnSheet, Covers}
 use Rattle.subdivision.specs.Reading.{plainReading}
-use Rattle.subdivision.specs.Index.{placeOf, zoneAt, chainOf, startOf, indexWords}
+use Rattle.subdivision.specs.Index.{placeOf, zoneAt, chainOf, indexWords}
 use Rattle.subdivision.specs.Lists.{put}
-use Rattle.subdivision.specs.Descent.{LookUps, Descent, Turn, onward, answered, damaged, breaks, start, placesSound, probe, arrived, stepped, examined, examine, toChain, turn, turns, descent, tableLookUps, indexLookUps}
+use Rattle.subdivision.specs.Descent.{LookUps, Descent, Turn, onward, answered, damaged, breaks, start, placesSound, probeChain, toChain, past, stepped, examined, examine, arrived, turn, turns, descent, tableLookUps, indexLookUps}
 use Rattle.subdivision.specs.Engine.{NoneTwice}
-use Rattle.theory.proofs.Blocks.{leftSon, rightSon, block-lca}
+use Rattle.theory.proofs.Blocks.{block-lca}
 use Rattle.theory.proofs.ChainCovers.{chain-probed}
 use Rattle.theory.proofs.Descents.{Sound, turnsLeft, start-sound, start-left, left-some, turn-sound, turn-falls}
-use Rattle.theory.proofs.FaithfulLookUps.{Faithful, index-faithful, breaks-not, starts-kept, probes-same}
+use Rattle.theory.proofs.FaithfulLookUps.{Faithful, index-faithful, breaks-not, starts-kept, chain-probed-alike}
 use Rattle.theory.proofs.Floors.{Floor, Ceiling, separating, separating-between, on-edge-plain, meeting-plain, above-is-under, below-is-over}
 use Rattle.theory.proofs.HeldIndex.{written-holds}
 use Rattle.theory.proofs.Places.{zone-at-below}
-use Rattle.theory.proofs.Turns.{past}
 
 -- ---- a trail with one more edge
 
@@ -64,8 +64,8 @@ module _ (s : Sheet) (a : Accepted s) (x y : ℕ) (o : OnSheet s x y) where
 
   -- what a descent knows: the point lies between the places i and j, and no examined edge does
   record Knows (d : Descent) : Type 0 where
-    floor : Floor s a x y o (d .i)
-    ceiling : Ceiling s a x y o (d .j)
+    floor : Floor s x y (d .i)
+    ceiling : Ceiling s x y (d .j)
     outside : (p : ℕ) → p < length (d .trail) → Outside (d .i) (d .j) (getD (d .trail) p 0)
     noneTwice : NoneTwice (d .trail)
 
@@ -97,8 +97,8 @@ module _ (s : Sheet) (a : Accepted s) (x y : ℕ) (o : OnSheet s x y) where
   -- ---- to a son
 
   -- where k becomes a son's, all that is known stays
-  son-same : (d : Descent) (k : ℕ) → Knows d → ((w : LookUps) → turn s w x y d ≡ onward (toChain s w x y d k)) → SameTurn d
-  son-same d k known so = (onward (toChain s (tableLookUps s) x y d k), record { floor = known .floor; ceiling = known .ceiling; outside = known .outside; noneTwice = known .noneTwice }, λ w f. so w)
+  son-same : (d : Descent) (k : ℕ) → Knows d → ((w : LookUps) → turn s w x y d ≡ onward (toChain d k)) → SameTurn d
+  son-same d k known so = (onward (toChain d k), record { floor = known .floor; ceiling = known .ceiling; outside = known .outside; noneTwice = known .noneTwice }, λ w f. so w)
 
   -- ---- chain k is examined, and its edge e that covers x is found
 
@@ -118,8 +118,8 @@ module _ (s : Sheet) (a : Accepted s) (x y : ℕ) (o : OnSheet s x y) where
         (omega (arith, blocks .0 .0, between .0), omega arith) (omega arith, omega (arith, blocks .1 .1, between .1))
 
     -- the probes of the chain on the tables
-    probed : (q : ℕ) × (probe s (tableLookUps s) x y (startOf s (d .k + 1)) (startOf s (d .k)) (startOf s (d .k + 1)) (d .probes) ≡ Covered e q)
-    probed = chain-probed s a x y (d .k) e (d .probes) o chain-inside b in-chain c
+    probed : (q : ℕ) × (probeChain s (tableLookUps s) x (d .k) (d .probes) ≡ Covered e q)
+    probed = chain-probed s a x (d .k) e (d .probes) b in-chain c
 
     -- the state past the edge
     abbrev next : ℕ → ℕ → Descent
@@ -145,7 +145,7 @@ module _ (s : Sheet) (a : Accepted s) (x y : ℕ) (o : OnSheet s x y) where
             go (inr q) = omega arith
 
     -- new places between the old ones, with the edge outside them
-    learns : (i j : ℕ) → Floor s a x y o i → Ceiling s a x y o j → d .i ≤ i → j ≤ d .j → Outside i j e → Knows (next i j)
+    learns : (i j : ℕ) → Floor s x y i → Ceiling s x y j → d .i ≤ i → j ≤ d .j → Outside i j e → Knows (next i j)
     learns i j f g up down out = record { floor = f; ceiling = g; outside = λ p h. go p (before-or-last (d .trail) e p h); noneTwice = first-time }
       where
         go : (p : ℕ) → BeforeOrLast (d .trail) e p → Outside i j (getD (d .trail ++ (e ∷ [])) p 0)
@@ -168,23 +168,23 @@ module _ (s : Sheet) (a : Accepted s) (x y : ℕ) (o : OnSheet s x y) where
       place-below : w .place (belowOf s e) ≡ placeOf s (belowOf s e)
       place-below = f .placed (belowOf s e) (a .two .0 e b .1 .1)
 
-      places-kept : breaks w (placesSound s w x y (d .k) e) ≡ false
+      places-kept : breaks w (placesSound s w (d .k) e) ≡ false
       places-kept =
-          breaks-not w (placesSound s w x y (d .k) e)
+          breaks-not w (placesSound s w (d .k) e)
           (rw (place-above, place-below) ((omega (arith, chain-inside), omega (arith, between .1, sound .inside)), (below, above)))
 
-      stays : (i j : ℕ) → i ≤ j → stepped s w x y (next i j) ≡ onward (next i j)
+      stays : (i j : ℕ) → i ≤ j → stepped w (next i j) ≡ onward (next i j)
       stays i j h = rw (breaks-not w (isAtMost i j) h, stepped)
 
       steps : (g : Side) → sideAt (segment s e) x y ≡ g → examined s w x y d e (probed .0) ≡ after g
-      steps On side = rw (places-kept, examined, side) (ap (λ r. answered r (next (d .i) (d .j))) (on-edge-plain s a x y o w e b c side))
+      steps On side = rw (places-kept, examined, side) (ap (λ r. answered r (next (d .i) (d .j))) (on-edge-plain s a x y o e b c side))
       steps Above side =
-          rw (places-kept, examined, side) (ap (λ i. stepped s w x y (next i (d .j))) place-above ∙ stays (placeOf s (aboveOf s e)) (d .j) (between .1))
+          rw (places-kept, examined, side) (ap (λ i. stepped w (next i (d .j))) place-above ∙ stays (placeOf s (aboveOf s e)) (d .j) (between .1))
       steps Below side =
-          rw (places-kept, examined, side) (ap (λ j. stepped s w x y (next (d .i) j)) place-below ∙ stays (d .i) (placeOf s (belowOf s e)) (between .0))
+          rw (places-kept, examined, side) (ap (λ j. stepped w (next (d .i) j)) place-below ∙ stays (d .i) (placeOf s (belowOf s e)) (between .0))
 
       examines : examine s w x y d ≡ after (sideAt (segment s e) x y)
-      examines = rw (starts-kept s a w f x y (d .k) chain-inside, examine, probes-same s a w f x y (d .k) chain-inside (d .probes), probed .1) (steps (sideAt (segment s e) x y) refl)
+      examines = rw (starts-kept s a w f x (d .k) chain-inside, examine, chain-probed-alike s a w f x (d .k) chain-inside (d .probes), probed .1) (steps (sideAt (segment s e) x y) refl)
 
   examine-same : (d : Descent) → Sound s d → Knows d → ltb (d .i) (d .j) ≡ true → ltb (d .j) (d .k) ≡ false → leb (d .k) (d .i) ≡ false → SameTurn d
   examine-same d sound known l m n = go (separating s a x y o (d .k) (omega (arith, low)) (omega (arith, high, sound .inside)))
@@ -225,7 +225,7 @@ module _ (s : Sheet) (a : Accepted s) (x y : ℕ) (o : OnSheet s x y) where
     where
       go : SameTurn d → ((next : Descent) → Sound s next → Knows next → turnsLeft next ≤ fuel → SameEnd (λ w. turns s w x y fuel next)) → SameEnd (λ w. turns s w x y (suc fuel) d)
       go (onward next, leads, so) rest =
-          let e : turn s (indexLookUps s written) x y d ≡ onward next = so (indexLookUps s written) (index-faithful s a written (written-holds s a [])) in
+          let e : turn s (indexLookUps s written) x y d ≡ onward next = so (indexLookUps s written) (index-faithful s written (written-holds s a [])) in
           let r = rest next (turn-sound s written x y d next sound e) leads (omega (arith, turn-falls s written x y d next sound e)) in
           (r .0, r .1, λ w f. rw (so w f, turns) (r .2 w f))
       go (answered r last, leads, so) rest = (last, leads .1, λ w f. rw (so w f, turns) (ap (λ q. answered q last) (leads .0)))
@@ -235,6 +235,7 @@ module _ (s : Sheet) (a : Accepted s) (x y : ℕ) (o : OnSheet s x y) where
   start-knows =
       record { floor = inl refl; ceiling = inl refl; outside = λ p h. absurd (not-suc-le-zero h); noneTwice = λ p q l h. absurd (not-suc-le-zero h) }
 
+  -- the descent ends with the plain reading, in one and the same state over all look-ups that give what the tables give
   pub descent-same : SameEnd (λ w. descent s w x y)
   unfolding descent
   descent-same = turns-same (2 * zoneCount s) (start s) (start-sound s (a .counts .1 .1 .0)) start-knows (start-left s (a .counts .1 .1 .0))

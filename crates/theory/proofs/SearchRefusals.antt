@@ -1,31 +1,32 @@
--- The refusals of the quick search: each is given exactly when its own line of the table says so, and leaves the trail as it was and both counts 0.
-use mathlib.Core.Path.{_≡_, refl, sym, ap, _∙_, subst}
+-- The refusals of the quick search: each is given exactly when document 01 says so, and leaves the trail as it was and both counts 0.
+use mathlib.Core.Path.{_≡_, refl, sym, ap, _∙_}
 use mathlib.Core.Bool.{Bool, true, false, false≢true}
-use mathlib.Core.List.{List, [], _∷_, _++_}
-use mathlib.Core.Logic.{_↔_}
+use mathlib.Core.List.{List}
+use mathlib.Core.Logic.{_⊎_, inl, inr, _↔_}
 use Prim.Native.Nat.{ℕ, zero, suc, _*_}
 use lib.IntN.{ℤ}
-use lib.Dec.{eqb}
 use lib.ListN.{length}
 use Rattle.subdivision.specs.declared.Answer.{Answer}
 use Rattle.subdivision.specs.declared.Answer.the-variants.{Vertex, Edge}
 use Rattle.subdivision.specs.declared.Verdict.{Verdict}
 use Rattle.subdivision.specs.declared.Verdict.the-variants.{Passed, Refused}
-use Rattle.subdivision.specs.Formula.{Formula, isEqual, holds}
+use Rattle.subdivision.specs.Formula.{holds}
 use Rattle.subdivision.specs.Sheet.{Sheet, shifted, zoneCount, westOf, eastOf}
-use Rattle.subdivision.specs.Refusals.{Refusal, names, unnamed, judged, limitRefusals, roomRefusal, trailRoom}
-use Rattle.subdivision.specs.Faults.{GivenBy, searchRefusals}
-use Rattle.subdivision.specs.Reading.{onSheet, isVertex}
-use Rattle.subdivision.specs.Descent.{LookUps, Descent, Turn, onward, answered, damaged, damages, onEdge, turn, turns, start, descent, indexLookUps, indexDescent}
+use Rattle.subdivision.specs.Refusals.{Refusal, judged}
+use Rattle.subdivision.specs.Faults.{GivenBy, AllKept, searchRefusals}
+use Rattle.subdivision.specs.Damage.{ComesToFault, SearchRefuses}
+use Rattle.subdivision.specs.Reading.{isVertex}
+use Rattle.subdivision.specs.Descent.{LookUps, Descent, Turn, onward, answered, damaged, onEdge, turn, turns, start, descent, indexLookUps, indexDescent}
 use Rattle.subdivision.specs.Calls.{Searched, searchRefused, searchAnswered, searchEnded, searching}
-use Rattle.theory.proofs.Judgement.{judged-append, none-named}
+use Rattle.theory.proofs.Damages.{damaged-exactly, answered-or-damaged}
+use Rattle.theory.proofs.Judgement.{passed-keeps, kept-passes}
 use Rattle.theory.proofs.Faults.{search-judged-exactly}
 use Rattle.theory.proofs.Turns.{Answers, arrival, landing, turn-answered}
 
 -- ---- a descent answers, and refuses nothing
 
 module _ (s : Sheet) (w : LookUps) (x y number item : ℕ) where
-  landed-unrefused : (e : ℕ) → onEdge s w x y e ≡ Answer.Refused number item → ⊥
+  landed-unrefused : (e : ℕ) → onEdge s x y e ≡ Answer.Refused number item → ⊥
   landed-unrefused e = go (holds (isVertex s x y (westOf s e))) (holds (isVertex s x y (eastOf s e)))
     where
       go : (b c : Bool)
@@ -61,9 +62,9 @@ descent-unrefused s index x y last a h number item = turns-unrefused s (indexLoo
 -- ---- the quick search by the verdict of its lines
 
 module _ (s : Sheet) (index : List ℕ) (x y : ℤ) (lent : List ℕ) where
-  -- the lines that the call checks
+  -- the lines that the call checks before it reads the index
   abbrev lines : List Refusal
-  lines = searchRefusals s index (shifted x) (shifted y) (length lent)
+  lines = searchRefusals s (length index) (shifted x) (shifted y) (length lent)
 
   -- the call as it is defined
   abbrev result : Searched
@@ -73,74 +74,76 @@ module _ (s : Sheet) (index : List ℕ) (x y : ℤ) (lent : List ℕ) where
   abbrev ended : Turn
   ended = indexDescent s index (shifted x) (shifted y)
 
-  -- what a search is by its verdict: refused, or answered as the descent ends
-  abbrev pub Comes : Verdict → Searched → Type 0
-  Comes Passed r = (a : Answer) × (d : Descent) × ((ended ≡ answered a d) × (r ≡ searchAnswered a d lent))
-  Comes (Refused number item) r = r ≡ searchRefused number item lent
+  -- a line refuses
+  abbrev pub ByLine : Type 0
+  ByLine = (number : ℕ) × (item : ℕ) × ((judged lines ≡ Refused number item) × (result ≡ searchRefused number item lent))
 
-  -- lines 20, 21 and 22
-  abbrev pointLines : List Refusal
-  pointLines =
-      unnamed 20 (onSheet s (shifted x) (shifted y)) ∷ unnamed 21 (trailRoom s (length lent)) ∷ unnamed 22 (isEqual (damages ended) 0) ∷ []
+  -- no line does, and the descent answers
+  abbrev pub ByAnswer : Type 0
+  ByAnswer = AllKept lines × ((a : Answer) × (d : Descent) × ((ended ≡ answered a d) × (result ≡ searchAnswered a d lent)))
 
-  -- the quick search is what its lines say
-  pub search-comes : Comes (judged (searchRefusals s index (shifted x) (shifted y) (length lent))) (searching s index x y lent)
+  -- no line does, and the descent is damaged
+  abbrev pub ByDamage : Type 0
+  ByDamage = AllKept lines × ((ended ≡ damaged) × (result ≡ searchRefused 22 0 lent))
+
+  refuses : (number item : ℕ) → judged lines ≡ Refused number item → result ≡ searchRefused number item lent
   unfolding searching
-  search-comes =
-      subst (λ v. Comes v result) (sym (judged-append (limitRefusals s ++ (roomRefusal s (length index) ∷ [])) pointLines))
-      (go (judged (limitRefusals s ++ (roomRefusal s (length index) ∷ []))) (holds (onSheet s (shifted x) (shifted y))) (holds (trailRoom s (length lent))) ended refl)
+  refuses number item e = rw (e, searching)
+
+  ends : (t : Turn) → AllKept lines → ended ≡ t → result ≡ searchEnded t lent
+  unfolding searching
+  ends t k e = rw (kept-passes lines k, searching, e)
+
+  -- a search comes by one of the three
+  pub search-comes : ByLine ⊎ (ByAnswer ⊎ ByDamage)
+  search-comes = go (judged lines) refl (answered-or-damaged s index (shifted x) (shifted y))
     where
-      verdictOf : Verdict → Bool → Bool → Turn → Verdict
-      verdictOf v b c t =
-          elim v [
-            | Passed ↦
-                elim b [
-                  | true ↦ elim c [ true ↦ elim (eqb (damages t) 0) [ true ↦ Passed | false ↦ Refused 22 (names (unnamed 22 (isEqual (damages t) 0))) ] | false ↦ Refused 21 (names (unnamed 21 (trailRoom s (length lent)))) ]
-                  | false ↦ Refused 20 (names (unnamed 20 (onSheet s (shifted x) (shifted y))))
-                ]
-            | Refused number item ↦ Refused number item
-          ]
+      go : (v : Verdict) → judged lines ≡ v → ((a : Answer) × (d : Descent) × (ended ≡ answered a d)) ⊎ (ended ≡ damaged) → ByLine ⊎ (ByAnswer ⊎ ByDamage)
+      go (Refused number item) e t = inl (number, item, (e, refuses number item e))
+      go Passed e (inl (a, d, t)) = let k = passed-keeps lines e in inr (inl (k, (a, d, (t, ends (answered a d) k t))))
+      go Passed e (inr t) = let k = passed-keeps lines e in inr (inr (k, (t, ends damaged k t)))
 
-      searchOf : Verdict → Bool → Bool → Turn → Searched
-      searchOf v b c t =
-          elim v [
-            | Refused number item ↦ searchRefused number item lent
-            | Passed ↦ elim b [ false ↦ searchRefused 20 0 lent | true ↦ elim c [ false ↦ searchRefused 21 0 lent | true ↦ searchEnded s t lent ] ]
-          ]
+  -- the answer of a result that is known
+  answer-of : (r : Searched) → result ≡ r → result .found .answer ≡ r .found .answer
+  answer-of r e = ap (λ q. q .found .answer) e
 
-      none : (number : ℕ) (kept : Formula) → searchRefused number 0 lent ≡ searchRefused number (names (unnamed number kept)) lent
-      none number kept = ap (λ item. searchRefused number item lent) (none-named number kept)
-
-      go : (v : Verdict) (b c : Bool) (t : Turn) → ended ≡ t → Comes (verdictOf v b c t) (searchOf v b c t)
-      go (Refused number item) b c t e = refl
-      go Passed false c t e = none 20 (onSheet s (shifted x) (shifted y))
-      go Passed true false t e = none 21 (trailRoom s (length lent))
-      go Passed true true (onward d) e = none 22 (isEqual 1 0)
-      go Passed true true damaged e = none 22 (isEqual 1 0)
-      go Passed true true (answered a d) e = (a, d, (e, refl))
-
-  -- each refusal of the quick search is given exactly when its own line says so
+  -- each refusal of the quick search is given exactly when its own line says so, 22 exactly when no line does and it comes to a fault
   pub search-refused-exactly : (number item : ℕ)
-      → (searching s index x y lent .found .answer ≡ Answer.Refused number item) ↔ GivenBy (searchRefusals s index (shifted x) (shifted y) (length lent)) number item
-  search-refused-exactly number item = (λ p. given .0 (there verdict search-comes p), λ g. back (given .1 g))
+      → (searching s index x y lent .found .answer ≡ Answer.Refused number item) ↔ SearchRefuses s index (shifted x) (shifted y) (length lent) number item
+  search-refused-exactly number item = (λ p. there p search-comes, back)
     where
-      verdict : Verdict
-      verdict = judged lines
+      given : (judged lines ≡ Refused number item) ↔ GivenBy lines number item
+      given = search-judged-exactly s (length index) (shifted x) (shifted y) (length lent) number item
 
-      given : (verdict ≡ Refused number item) ↔ GivenBy lines number item
-      given = search-judged-exactly s index (shifted x) (shifted y) (length lent) number item
+      exactly : AllKept lines → (ended ≡ damaged) ↔ ComesToFault s index (shifted x) (shifted y)
+      exactly k = damaged-exactly s index (shifted x) (shifted y) (k .0 .1 .1 .0)
 
-      there : (v : Verdict) → Comes v result → result .found .answer ≡ Answer.Refused number item → v ≡ Refused number item
-      there Passed (a, d, (e, r)) p = absurd (descent-unrefused s index (shifted x) (shifted y) d a e number item (sym (ap (λ q. q .found .answer) r) ∙ p))
-      there (Refused n i) r p = let same : Answer.Refused n i ≡ Answer.Refused number item = sym (ap (λ q. q .found .answer) r) ∙ p in cc
+      there : result .found .answer ≡ Answer.Refused number item → ByLine ⊎ (ByAnswer ⊎ ByDamage)
+          → SearchRefuses s index (shifted x) (shifted y) (length lent) number item
+      there p (inl (n, i, (e, r))) =
+          let same : Answer.Refused n i ≡ Answer.Refused number item = sym (answer-of (searchRefused n i lent) r) ∙ p in
+          let verdict : Refused n i ≡ Refused number item = cc in inl (given .0 (e ∙ verdict))
+      there p (inr (inl (k, (a, d, (t, r))))) =
+          absurd (descent-unrefused s index (shifted x) (shifted y) d a t number item (sym (answer-of (searchAnswered a d lent) r) ∙ p))
+      there p (inr (inr (k, (t, r)))) =
+          let same : Answer.Refused 22 0 ≡ Answer.Refused number item = sym (answer-of (searchRefused 22 0 lent) r) ∙ p in
+          let n : number ≡ 22 = cc in
+          let i : item ≡ 0 = cc in inr (k, (exactly k .0 t, (n, i)))
 
-      back : verdict ≡ Refused number item → result .found .answer ≡ Answer.Refused number item
-      back e = ap (λ q. q .found .answer) (rw e at search-comes)
+      back : SearchRefuses s index (shifted x) (shifted y) (length lent) number item → result .found .answer ≡ Answer.Refused number item
+      back (inl g) = answer-of (searchRefused number item lent) (refuses number item (given .1 g))
+      back (inr (k, (f, (n, i)))) = rw (n, i) (answer-of (searchRefused 22 0 lent) (ends damaged k (exactly k .1 f)))
 
   -- a refused search leaves the trail as it was, and both counts 0
   pub refused-leaves : (number item : ℕ) → searching s index x y lent .found .answer ≡ Answer.Refused number item
       → (searching s index x y lent .trail ≡ lent) × ((searching s index x y lent .found .examined ≡ 0) × (searching s index x y lent .found .probes ≡ 0))
-  refused-leaves number item p = (ap (λ q. q .trail) left, (ap (λ q. q .found .examined) left, ap (λ q. q .found .probes) left))
+  refused-leaves number item p = go search-comes
     where
-      left : result ≡ searchRefused number item lent
-      left = rw (search-judged-exactly s index (shifted x) (shifted y) (length lent) number item .1 (search-refused-exactly number item .0 p)) at search-comes
+      left : (n i : ℕ) → result ≡ searchRefused n i lent → (result .trail ≡ lent) × ((result .found .examined ≡ 0) × (result .found .probes ≡ 0))
+      left n i r = (ap (λ q. q .trail) r, (ap (λ q. q .found .examined) r, ap (λ q. q .found .probes) r))
+
+      go : ByLine ⊎ (ByAnswer ⊎ ByDamage) → (result .trail ≡ lent) × ((result .found .examined ≡ 0) × (result .found .probes ≡ 0))
+      go (inl (n, i, (e, r))) = left n i r
+      go (inr (inl (k, (a, d, (t, r))))) =
+          absurd (descent-unrefused s index (shifted x) (shifted y) d a t number item (sym (answer-of (searchAnswered a d lent) r) ∙ p))
+      go (inr (inr (k, (t, r)))) = left 22 0 r

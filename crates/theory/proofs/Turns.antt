@@ -1,8 +1,7 @@
 -- One turn of a descent over any look-ups, read backwards: what was found where it goes onward, and where it answers.
 use mathlib.Core.Path.{_≡_, refl}
 use mathlib.Core.Bool.{Bool, true, false, not, false≢true}
-use mathlib.Core.List.{[], _∷_, _++_}
-use Prim.Native.Nat.{ℕ, _+_, _<_, _≤_}
+use Prim.Native.Nat.{ℕ, _<_, _≤_}
 use lib.Dec.{leb, ltb}
 use borrow.Author.Tests.{ltb-true, ltb-false, leb-true, leb-false}
 use Rattle.subdivision.specs.declared.Answer.{Answer}
@@ -12,19 +11,19 @@ use Rattle.subdivision.specs.declared.Probed.the-variants.{Covered, Missing}
 use Rattle.subdivision.specs.declared.Side.{Side}
 use Rattle.subdivision.specs.declared.Side.the-variants.{Below, On, Above}
 use Rattle.subdivision.specs.Formula.{Formula, isLess, isAtMost, holds, Means}
+use Rattle.subdivision.specs.Dyadic.{leftSon, rightSon}
 use Rattle.subdivision.specs.Sheet.{Sheet, zoneCount, aboveOf, belowOf, segment}
 use Rattle.subdivision.specs.Lines.{sideAt}
-use Rattle.subdivision.specs.Descent.{LookUps, Descent, Turn, onward, answered, damaged, breaks, startsSound, placesSound, probe, onEdge, stepped, examined, examine, toChain, arrived, turn}
-use Rattle.theory.proofs.Blocks.{leftSon, rightSon}
+use Rattle.subdivision.specs.Descent.{LookUps, Descent, Turn, onward, answered, damaged, breaks, startsSound, placesSound, probeChain, onEdge, toChain, past, stepped, examined, examine, arrived, turn}
 use Rattle.theory.proofs.Decide.{means}
 
 -- what is judged is kept
-abbrev pub Kept : LookUps → Formula → Type 0
-Kept w f = w .judging ≡ true → Means f
+abbrev pub Judged : LookUps → Formula → Type 0
+Judged w f = w .judging ≡ true → Means f
 
 -- where a turn is not damaged, what it judged is kept
 undamaged : (w : LookUps) (f : Formula) (t r : Turn) → (damaged ≡ r → ⊥)
-    → _≡_ {A = Turn} (elim (breaks w f) [ true ↦ damaged | false ↦ t ]) r → Kept w f × (t ≡ r)
+    → _≡_ {A = Turn} (elim (breaks w f) [ true ↦ damaged | false ↦ t ]) r → Judged w f × (t ≡ r)
 undamaged w f t r n h = go (w .judging) h
   where
     judged : (b : Bool) → holds f ≡ b → _≡_ {A = Turn} (elim (not b) [ true ↦ damaged | false ↦ t ]) r → Means f × (t ≡ r)
@@ -36,32 +35,28 @@ undamaged w f t r n h = go (w .judging) h
     go true m = (λ j. judged (holds f) refl m .0, judged (holds f) refl m .1)
     go false m = (λ j. absurd (false≢true j), m)
 
--- the state past edge e, with q probes so far, at the places i and j
-abbrev pub past : Descent → ℕ → ℕ → ℕ → ℕ → Descent
-past d e q i j = record { i = i; j = j; k = d .k; trail = d .trail ++ (e ∷ []); probes = q }
-
 module _ (s : Sheet) (w : LookUps) (x y : ℕ) where
   -- edge e of the chain k is examined, with q probes so far
   pub record Examines (d : Descent) (e q : ℕ) : Type 0 where
     pub lower : d .i < d .k
     pub upper : d .k ≤ d .j
-    pub starts : Kept w (startsSound s w x y (d .k))
-    pub probed : probe s w x y (w .start (d .k + 1)) (w .start (d .k)) (w .start (d .k + 1)) (d .probes) ≡ Covered e q
-    pub places : Kept w (placesSound s w x y (d .k) e)
+    pub starts : Judged w (startsSound s w (d .k))
+    pub probed : probeChain s w x (d .k) (d .probes) ≡ Covered e q
+    pub places : Judged w (placesSound s w (d .k) e)
 
   -- what a turn found that goes onward
   pub data Onward (d next : Descent) : Type 0 where
-    leftward : d .i < d .j → d .j < d .k → next ≡ toChain s w x y d (leftSon (d .k)) → Onward d next
-    rightward : d .i < d .j → d .k ≤ d .i → next ≡ toChain s w x y d (rightSon (d .k)) → Onward d next
-    above : (e q : ℕ) → Examines d e q → sideAt (segment s e) x y ≡ Above → Kept w (isAtMost (w .place (aboveOf s e)) (d .j))
+    leftward : d .i < d .j → d .j < d .k → next ≡ toChain d (leftSon (d .k)) → Onward d next
+    rightward : d .i < d .j → d .k ≤ d .i → next ≡ toChain d (rightSon (d .k)) → Onward d next
+    above : (e q : ℕ) → Examines d e q → sideAt (segment s e) x y ≡ Above → Judged w (isAtMost (w .place (aboveOf s e)) (d .j))
         → next ≡ past d e q (w .place (aboveOf s e)) (d .j) → Onward d next
-    below : (e q : ℕ) → Examines d e q → sideAt (segment s e) x y ≡ Below → Kept w (isAtMost (d .i) (w .place (belowOf s e)))
+    below : (e q : ℕ) → Examines d e q → sideAt (segment s e) x y ≡ Below → Judged w (isAtMost (d .i) (w .place (belowOf s e)))
         → next ≡ past d e q (d .i) (w .place (belowOf s e)) → Onward d next
 
   -- what a turn found that answers
   pub data Answers (d last : Descent) (a : Answer) : Type 0 where
-    arrival : d .j ≤ d .i → Kept w (isLess (w .zone (d .i)) (zoneCount s)) → a ≡ Zone (w .zone (d .i)) → last ≡ d → Answers d last a
-    landing : (e q : ℕ) → Examines d e q → sideAt (segment s e) x y ≡ On → a ≡ onEdge s w x y e → last ≡ past d e q (d .i) (d .j) → Answers d last a
+    arrival : d .j ≤ d .i → Judged w (isLess (w .zone (d .i)) (zoneCount s)) → a ≡ Zone (w .zone (d .i)) → last ≡ d → Answers d last a
+    landing : (e q : ℕ) → Examines d e q → sideAt (segment s e) x y ≡ On → a ≡ onEdge s x y e → last ≡ past d e q (d .i) (d .j) → Answers d last a
 
   -- a turn by its three tests
   abbrev chosen : Descent → Bool → Bool → Bool → Turn
@@ -70,39 +65,40 @@ module _ (s : Sheet) (w : LookUps) (x y : ℕ) where
         | false ↦ arrived s w x y d
         | true ↦
             elim left [
-              | true ↦ onward (toChain s w x y d (leftSon (d .k)))
+              | true ↦ onward (toChain d (leftSon (d .k)))
               | false ↦
-                  elim right [ true ↦ onward (toChain s w x y d (rightSon (d .k))) | false ↦ examine s w x y d ]
+                  elim right [ true ↦ onward (toChain d (rightSon (d .k))) | false ↦ examine s w x y d ]
             ]
       ]
 
   -- an examined edge by its side
-  abbrev sided : Descent → ℕ → ℕ → Side → Turn
+  abbrev pub sided : Descent → ℕ → ℕ → Side → Turn
   sided d e q side =
       elim side [
-        | On ↦ answered (onEdge s w x y e) (past d e q (d .i) (d .j))
-        | Above ↦ stepped s w x y (past d e q (w .place (aboveOf s e)) (d .j))
-        | Below ↦ stepped s w x y (past d e q (d .i) (w .place (belowOf s e)))
+        | On ↦ answered (onEdge s x y e) (past d e q (d .i) (d .j))
+        | Above ↦ stepped w (past d e q (w .place (aboveOf s e)) (d .j))
+        | Below ↦ stepped w (past d e q (d .i) (w .place (belowOf s e)))
       ]
 
   -- an examination that is not damaged finds an edge
   examine-finds : (d : Descent) (r : Turn) → d .i < d .k → d .k ≤ d .j → (damaged ≡ r → ⊥) → examine s w x y d ≡ r
       → (e : ℕ) × (q : ℕ) × Examines d e q × (sided d e q (sideAt (segment s e) x y) ≡ r)
   examine-finds d r l u n h =
-      let p = undamaged w (startsSound s w x y (d .k)) (at (probe s w x y (w .start (d .k + 1)) (w .start (d .k)) (w .start (d .k + 1)) (d .probes))) r n h in
-      go (probe s w x y (w .start (d .k + 1)) (w .start (d .k)) (w .start (d .k + 1)) (d .probes)) refl (p .0) (p .1)
+      let p = undamaged w (startsSound s w (d .k)) (at (probeChain s w x (d .k) (d .probes))) r n h in
+      go (probeChain s w x (d .k) (d .probes)) refl (p .0) (p .1)
     where
       at : Probed → Turn
       at p = elim p [ Covered e q ↦ examined s w x y d e q | Missing ↦ damaged ]
 
-      go : (p : Probed) → probe s w x y (w .start (d .k + 1)) (w .start (d .k)) (w .start (d .k + 1)) (d .probes) ≡ p
-          → Kept w (startsSound s w x y (d .k)) → at p ≡ r
+      go : (p : Probed) → probeChain s w x (d .k) (d .probes) ≡ p
+          → Judged w (startsSound s w (d .k)) → at p ≡ r
           → (e : ℕ) × (q : ℕ) × Examines d e q × (sided d e q (sideAt (segment s e) x y) ≡ r)
       go (Covered e q) c k m =
-          let p = undamaged w (placesSound s w x y (d .k) e) (sided d e q (sideAt (segment s e) x y)) r n m in
+          let p = undamaged w (placesSound s w (d .k) e) (sided d e q (sideAt (segment s e) x y)) r n m in
           (e, q, record { lower = l; upper = u; starts = k; probed = c; places = p .0 }, p .1)
       go Missing c k m = absurd (n m)
 
+  -- a turn that goes onward was one of four
   pub turn-onward : (d next : Descent) → turn s w x y d ≡ onward next → Onward d next
   turn-onward d next h = go (ltb (d .i) (d .j)) (ltb (d .j) (d .k)) (leb (d .k) (d .i)) refl refl refl h
     where
@@ -128,6 +124,7 @@ module _ (s : Sheet) (w : LookUps) (x y : ℕ) where
           let f = examine-finds d (onward next) (leb-false (d .k) (d .i) r) (ltb-false (d .j) (d .k) q) apart m in
           side (f .0) (f .1) (f .2) (sideAt (segment s (f .0)) x y) refl (f .3)
 
+  -- a turn that answers was one of two
   pub turn-answered : (d last : Descent) (a : Answer) → turn s w x y d ≡ answered a last → Answers d last a
   turn-answered d last a h = go (ltb (d .i) (d .j)) (ltb (d .j) (d .k)) (leb (d .k) (d .i)) refl refl refl h
     where
@@ -136,7 +133,7 @@ module _ (s : Sheet) (w : LookUps) (x y : ℕ) where
 
       side : (e q : ℕ) → Examines d e q → (t : Side) → sideAt (segment s e) x y ≡ t → sided d e q t ≡ answered a last → Answers d last a
       side e q f On c m =
-          let same : a ≡ onEdge s w x y e = cc in
+          let same : a ≡ onEdge s x y e = cc in
           let state : last ≡ past d e q (d .i) (d .j) = cc in
           landing e q f c same state
       side e q f Above c m =

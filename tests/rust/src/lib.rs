@@ -16,6 +16,7 @@ mod exported {
         pub fn tw_conflict(vertices: *const i32, vertices_len: usize, edges: *const u32, edges_len: usize, e: u32, f: u32) -> u32;
         pub fn tw_open(west: i32, east: i32, vertices: *const i32, vertices_len: usize, edges: *const u32, edges_len: usize, zones: u32, index: *mut u32, index_len: usize, out: *mut u32);
         pub fn tw_read(west: i32, east: i32, vertices: *const i32, vertices_len: usize, edges: *const u32, edges_len: usize, zones: u32, x: i32, y: i32, out: *mut u32);
+        pub fn tw_search(west: i32, east: i32, vertices: *const i32, vertices_len: usize, edges: *const u32, edges_len: usize, zones: u32, index: *const u32, index_len: usize, x: i32, y: i32, trail: *mut u32, trail_len: usize, out: *mut u32);
     }
 }
 
@@ -60,6 +61,14 @@ pub fn read(s: &Sheet, x: i32, y: i32) -> [u32; 3] {
     let mut out = [u32::MAX; 3];
     let (v, e) = (&s.vertices, &s.edges);
     unsafe { exported::tw_read(s.west, s.east, v.as_ptr(), v.len(), e.as_ptr(), e.len(), s.zones, x, y, out.as_mut_ptr()) };
+    out
+}
+
+/// Searches for a point: as `read` has it, then the edges examined and the probes.
+pub fn search(s: &Sheet, index: &[u32], x: i32, y: i32, trail: &mut [u32]) -> [u32; 5] {
+    let mut out = [u32::MAX; 5];
+    let (v, e) = (&s.vertices, &s.edges);
+    unsafe { exported::tw_search(s.west, s.east, v.as_ptr(), v.len(), e.as_ptr(), e.len(), s.zones, index.as_ptr(), index.len(), x, y, trail.as_mut_ptr(), trail.len(), out.as_mut_ptr()) };
     out
 }
 

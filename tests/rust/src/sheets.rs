@@ -1,4 +1,4 @@
-//! Sheets as plain tables, and a generator of accepted ones.
+//! Sheets as plain tables, generators of accepted ones, and of points on them and near.
 use crate::Random;
 
 #[derive(Clone, Debug, Default)]
@@ -155,6 +155,14 @@ pub fn accepted(r: &mut Random, vertices: usize, surplus: usize, zones: usize) -
     s
 }
 
+/// An accepted sheet with fewer than 50 vertices, in half of the cases with zones in several pieces.
+pub fn small(r: &mut Random) -> Sheet {
+    let surplus = r.below(24) as usize;
+    let vertices = surplus + 3 + r.below(surplus as u64 + 1) as usize;
+    let zones = [usize::MAX, 2 + surplus / 2][r.below(2) as usize];
+    accepted(r, vertices, surplus, zones)
+}
+
 /// A sheet at every limit: 1,024 vertices, 2,048 edges, 1,024 zones.
 pub fn largest(r: &mut Random) -> Sheet {
     accepted(r, 1024, 1024, 1024)
@@ -194,4 +202,28 @@ pub fn terraces(r: &mut Random, chains: usize) -> Sheet {
         e[..2].iter_mut().for_each(|v| *v = order.iter().position(|&o| o == *v as usize).unwrap() as u32);
     }
     s
+}
+
+/// The lens sheet of document 01.
+pub fn lens() -> Sheet {
+    Sheet { west: 0, east: 4, zones: 3, vertices: vec![0, 0, 2, 2, 2, -2, 4, 0], edges: vec![0, 1, 2, 1, 1, 3, 2, 1, 0, 2, 1, 0, 2, 3, 1, 0] }
+}
+
+/// A point at or near a vertex, on an edge, at a margin, or anywhere.
+pub fn point(r: &mut Random, s: &Sheet) -> (i64, i64) {
+    let v = 2 * r.below(s.vertices.len() as u64 / 2) as usize;
+    let (x, y) = (s.vertices[v] as i64, s.vertices[v + 1] as i64);
+    let near = |r: &mut Random, c: i64| c + r.between(-1, 1);
+    match r.below(6) {
+        0 => (x, y),
+        1 => (near(r, x), near(r, y)),
+        2 => {
+            let e = 4 * r.below(s.edges.len() as u64 / 4) as usize;
+            let (u, w) = (2 * s.edges[e] as usize, 2 * s.edges[e + 1] as usize);
+            ((s.vertices[u] as i64 + s.vertices[w] as i64) / 2, (s.vertices[u + 1] as i64 + s.vertices[w + 1] as i64) / 2)
+        }
+        3 => ([s.west, s.east][r.below(2) as usize] as i64, near(r, y)),
+        4 => (x, r.between(-1_000_000, 1_000_000)),
+        _ => (r.between(s.west as i64, s.east as i64), r.between(-1_000_000, 1_000_000)),
+    }
 }

@@ -40,10 +40,8 @@ fn accepted_sheets_open_and_one_changed_word_is_told() {
     let mut r = Random::new("opening", 12);
     let mut given = [0usize; 14];
     for _ in 0..calls(600) {
-        let surplus = r.below(24) as usize;
-        let vertices = surplus + 3 + r.below(surplus as u64 + 1) as usize;
-        let zones = [usize::MAX, 2 + surplus / 2][r.below(2) as usize];
-        let s = sheets::accepted(&mut r, vertices, surplus, zones);
+        let s = sheets::small(&mut r);
+        let vertices = s.vertices.len() / 2;
         let mut index = vec![7; s.need() + 2];
         assert_eq!(open(&s, &mut index), [0, 0], "{s:?}");
         let again = {

@@ -1,5 +1,5 @@
 //! The plain reading of random points, beside a reading in plain Rust by fractions, from beneath and overhead, in the east and in the west.
-use thawweasel_tests::{calls, enough, read, sheets, sheets::Sheet, Random};
+use thawweasel_tests::{calls, enough, read, sheets, sheets::lens, sheets::Sheet, Random};
 
 /// An edge with its ends and its zones.
 struct Edge {
@@ -88,25 +88,6 @@ fn plain(s: &Sheet, line: &[u32], x: i64, y: i64) -> [u32; 3] {
     [3, found, 0]
 }
 
-/// A point at or near a vertex, on an edge, at a margin, or anywhere.
-fn point(r: &mut Random, s: &Sheet) -> (i64, i64) {
-    let v = 2 * r.below(s.vertices.len() as u64 / 2) as usize;
-    let (x, y) = (s.vertices[v] as i64, s.vertices[v + 1] as i64);
-    let near = |r: &mut Random, c: i64| c + r.between(-1, 1);
-    match r.below(6) {
-        0 => (x, y),
-        1 => (near(r, x), near(r, y)),
-        2 => {
-            let e = 4 * r.below(s.edges.len() as u64 / 4) as usize;
-            let (u, w) = (2 * s.edges[e] as usize, 2 * s.edges[e + 1] as usize);
-            ((s.vertices[u] as i64 + s.vertices[w] as i64) / 2, (s.vertices[u + 1] as i64 + s.vertices[w + 1] as i64) / 2)
-        }
-        3 => ([s.west, s.east][r.below(2) as usize] as i64, near(r, y)),
-        4 => (x, r.between(-1_000_000, 1_000_000)),
-        _ => (r.between(s.west as i64, s.east as i64), r.between(-1_000_000, 1_000_000)),
-    }
-}
-
 /// How often each kind of answer came, and zones that are neither the first nor the last of the line, at either margin and elsewhere.
 #[derive(Default)]
 struct Counts {
@@ -120,7 +101,7 @@ struct Counts {
 fn compare(r: &mut Random, s: &Sheet, points: usize, counts: &mut Counts) {
     let line = line(s);
     for _ in 0..points {
-        let (x, y) = point(r, s);
+        let (x, y) = sheets::point(r, s);
         let on_sheet = s.west as i64 <= x && x <= s.east as i64 && y.abs() <= 1_000_000;
         let expected = if on_sheet { plain(s, &line, x, y) } else { [0, 20, 0] };
         assert_eq!(read(s, x as i32, y as i32), expected, "({x}, {y}) of {s:?}");
@@ -138,10 +119,7 @@ fn points_are_read_as_by_fractions() {
     let mut r = Random::new("reading", 13);
     let mut counts = Counts::default();
     for _ in 0..calls(300) {
-        let surplus = r.below(24) as usize;
-        let vertices = surplus + 3 + r.below(surplus as u64 + 1) as usize;
-        let zones = [usize::MAX, 2 + surplus / 2][r.below(2) as usize];
-        let s = sheets::accepted(&mut r, vertices, surplus, zones);
+        let s = sheets::small(&mut r);
         compare(&mut r, &s, 20, &mut counts);
         let chains = 1 + r.below(6) as usize;
         let s = sheets::terraces(&mut r, chains);
@@ -150,11 +128,6 @@ fn points_are_read_as_by_fractions() {
     compare(&mut r, &sheets::fan(), 100, &mut counts);
     let [refused, vertices, edges, zones] = counts.kinds;
     enough(&[("refused", refused), ("vertices", vertices), ("edges", edges), ("zones", zones), ("inner zones", counts.inner), ("inner zones at W", counts.inner_at_west), ("inner zones at E", counts.inner_at_east)]);
-}
-
-/// The lens sheet of document 01.
-fn lens() -> Sheet {
-    Sheet { west: 0, east: 4, zones: 3, vertices: vec![0, 0, 2, 2, 2, -2, 4, 0], edges: vec![0, 1, 2, 1, 1, 3, 2, 1, 0, 2, 1, 0, 2, 3, 1, 0] }
 }
 
 #[test]

@@ -1,6 +1,6 @@
-//! Every `sheet`, `open` and `read` line of the outside vectors, run against the proved opening and the proved plain reading.
+//! Every line of the outside vectors, run against the proved opening, plain reading and quick search.
 use std::{fs, path::Path};
-use thawweasel_tests::{open, read, sheets::Sheet};
+use thawweasel_tests::{open, read, search, sheets::Sheet};
 
 /// What every word holds before it is lent.
 const LENT: u32 = 0xA5A5_A5A5;
@@ -15,7 +15,21 @@ fn sheet(line: &str) -> Sheet {
     Sheet { west: head[0] as i32, east: head[1] as i32, zones: head[2] as u32, vertices: numbers(parts[1]), edges: numbers(parts[2]) }
 }
 
-fn run_open(name: &str, line: &str, s: &Sheet) {
+/// The kind, the number, and the item that a refusal names.
+fn answer(name: &str, text: &str) -> [u32; 3] {
+    let (kind, rest) = text.trim().split_once(' ').expect("a kind");
+    let values: Vec<u32> = numbers(rest);
+    match kind {
+        "vertex" => [1, values[0], 0],
+        "edge" => [2, values[0], 0],
+        "zone" => [3, values[0], 0],
+        "refused" => [0, values[0], values[1]],
+        other => panic!("{name}: unknown answer {other}"),
+    }
+}
+
+/// Opens a sheet, and gives the lent words as they are afterwards.
+fn run_open(name: &str, line: &str, s: &Sheet) -> Vec<u32> {
     let (call, answer) = line.split_once("->").expect("an answer");
     let words = numbers::<usize>(call)[0];
     let mut index = vec![LENT; words];
@@ -31,47 +45,58 @@ fn run_open(name: &str, line: &str, s: &Sheet) {
         }
         other => panic!("{name}: unknown answer {other}"),
     }
+    index
 }
 
 fn run_read(name: &str, line: &str, s: &Sheet) {
-    let (call, answer) = line.split_once("->").expect("an answer");
+    let (call, said) = line.split_once("->").expect("an answer");
     let point: Vec<i32> = numbers(call);
-    let (kind, rest) = answer.trim().split_once(' ').expect("a kind");
-    let values: Vec<u32> = numbers(rest);
-    let expected = match kind {
-        "vertex" => [1, values[0], 0],
-        "edge" => [2, values[0], 0],
-        "zone" => [3, values[0], 0],
-        "refused" => [0, values[0], values[1]],
-        other => panic!("{name}: unknown answer {other}"),
-    };
-    assert_eq!(read(s, point[0], point[1]), expected, "{name}: {line}");
+    assert_eq!(read(s, point[0], point[1]), answer(name, said), "{name}: {line}");
+}
+
+fn run_search(name: &str, line: &str, s: &Sheet, index: &[u32]) {
+    let (call, said) = line.split_once("->").expect("an answer");
+    let call: Vec<i32> = numbers(call);
+    let (said, counted) = said.split_once("trail").unwrap_or((said, "probes 0"));
+    let (entries, probes) = counted.split_once("probes").expect("the probes");
+    let [kind, number, item] = answer(name, said);
+    let mut left: Vec<u32> = numbers(entries);
+    let counts = [left.len() as u32, numbers(probes)[0]];
+    left.resize(call[2] as usize, LENT);
+    let mut trail = vec![LENT; call[2] as usize];
+    assert_eq!(search(s, index, call[0], call[1], &mut trail), [kind, number, item, counts[0], counts[1]], "{name}: {line}");
+    assert_eq!(trail, left, "{name}: {line}");
 }
 
 #[test]
-fn every_sheet_opened_and_every_point_read_as_the_vectors_say() {
+fn every_sheet_opened_and_every_point_read_and_searched_as_the_vectors_say() {
     let folder = Path::new(env!("CARGO_MANIFEST_DIR")).join("../vectors");
-    let (mut sheets, mut opens, mut reads) = (0, 0, 0);
+    let (mut sheets, mut opens, mut reads, mut lent, mut searches) = (0, 0, 0, 0, 0);
     for entry in fs::read_dir(folder).unwrap() {
         let path = entry.unwrap().path();
         let name = path.file_name().unwrap().to_string_lossy().into_owned();
         if !name.starts_with("base-") {
             continue;
         }
-        let mut s = Sheet::default();
-        for line in fs::read_to_string(&path).unwrap().lines() {
-            if let Some(tables) = line.strip_prefix("sheet ") {
-                s = sheet(tables);
-                sheets += 1;
-            } else if let Some(call) = line.strip_prefix("open ") {
-                run_open(&name, call, &s);
-                opens += 1;
-            } else if let Some(call) = line.strip_prefix("read ") {
-                run_read(&name, call, &s);
-                reads += 1;
+        let (mut s, mut index) = (Sheet::default(), vec![]);
+        for line in fs::read_to_string(&path).unwrap().lines().filter(|l| !l.trim().is_empty()) {
+            let (call, rest) = line.split_once(' ').unwrap_or((line, ""));
+            match call {
+                "sheet" => (s, sheets) = (sheet(rest), sheets + 1),
+                "open" => (index, opens) = (run_open(&name, rest, &s), opens + 1),
+                "lend" => (index, lent) = (numbers(rest), lent + 1),
+                "read" => {
+                    run_read(&name, rest, &s);
+                    reads += 1;
+                }
+                "search" => {
+                    run_search(&name, rest, &s, &index);
+                    searches += 1;
+                }
+                other => panic!("{name}: unknown call {other}"),
             }
         }
     }
-    println!("vectors: {sheets} sheets, {opens} openings, {reads} readings");
-    assert!(sheets > 0 && opens > 0 && reads > 0, "no vector was run");
+    println!("vectors: {sheets} sheets, {opens} openings, {reads} readings, {lent} lent indexes, {searches} searches");
+    assert!([sheets, opens, reads, lent, searches].iter().all(|&n| n > 0), "no vector of a kind was run");
 }

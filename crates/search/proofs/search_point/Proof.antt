@@ -191,7 +191,7 @@ ended : (c : tie.After-descend) → Ended (tables (start (point c))) (start (poi
 ended c =
     let k = point c in
     let index = start k .args .index .now in
-    (c .descend .ensures .0 ∙ (λ i. foundBy (same-sheet k i) (indexDescent (same-sheet k i) index (x-read k i) (y-read k i))), c .descend .ensures .1 ∙ (λ i. trailOf (indexDescent (same-sheet k i) index (x-read k i) (y-read k i))))
+    (c .descend .ensures .0 ∙ (λ i. foundBy (indexDescent (same-sheet k i) index (x-read k i) (y-read k i))), c .descend .ensures .1 ∙ (λ i. trailOf (indexDescent (same-sheet k i) index (x-read k i) (y-read k i))))
 
 -- the array lists as many edges as are counted
 long : (c : tie.After-descend) → length (take (c .descend .result .examined) (array c)) ≡ c .descend .result .examined

@@ -1,6 +1,7 @@
-//! How long opening takes on sheets at every limit, beside comparing all pairs of their edges in plain Rust.
+//! How long opening takes on sheets at every limit, beside comparing all pairs of their edges in plain Rust; and how long the quick
+//! search of a point takes, beside its plain reading.
 use std::time::{Duration, Instant};
-use thawweasel_tests::{open, sheets, sheets::Sheet, Random};
+use thawweasel_tests::{open, read, search, sheets, sheets::Sheet, Random};
 
 type Point = (i64, i64);
 
@@ -54,10 +55,32 @@ fn time(name: &str, s: &Sheet) {
     );
 }
 
+/// Times the search and the plain reading of the points of one sheet, for one point each, and prints their ratio.
+fn time_points(name: &str, s: &Sheet, points: &[(i64, i64)]) {
+    let mut index = vec![0; s.need()];
+    assert_eq!(open(s, &mut index), [0, 0]);
+    let mut trail = [0; 10];
+    let mut searched = |p: &(i64, i64)| std::hint::black_box(search(s, &index, p.0 as i32, p.1 as i32, &mut trail))[0];
+    let searching = shortest(|| assert!(points.iter().all(|p| searched(p) > 0))).as_secs_f64() / points.len() as f64;
+    let few = &points[..points.len().min(4)];
+    let reading = shortest(|| assert!(few.iter().all(|p| read(s, p.0 as i32, p.1 as i32)[0] > 0))).as_secs_f64() / few.len() as f64;
+    println!(
+        "{name}, {} edges: searching a point {:.3} us; reading it {:.0} us; ratio {:.6}",
+        s.edges.len() / 4,
+        searching * 1e6,
+        reading * 1e6,
+        searching / reading
+    );
+}
+
 fn main() {
     let mut r = Random::new("bench", 21);
     for _ in 0..3 {
         time("at every limit", &sheets::largest(&mut r));
     }
     time("one fan", &sheets::fan());
+    let s = sheets::largest(&mut r);
+    let anywhere = |r: &mut Random| (r.between(s.west as i64, s.east as i64), r.between(-1_000_000, 1_000_000));
+    let points: Vec<(i64, i64)> = (0..1_000).map(|_| anywhere(&mut r)).collect();
+    time_points("at every limit", &s, &points);
 }

@@ -15,7 +15,7 @@ abbrev Inv-loop : tie.InvT-loop
 Inv-loop west east vertices edges zones index from to x made lo₀ hi₀ probes₀ lo hi probes =
     let s = sheetAt west east vertices edges zones in
     let w = indexLookUps s index in
-    ((hi ≤ to) × (probes + (hi - lo) ≤ made + to)) × Probing s w x (probe s w x 0 to from to made) lo hi probes
+    ((hi ≤ to) × (probes + (hi - lo) ≤ made + to)) × Probing s w x (probe s w x to from to made) lo hi probes
 
 abbrev μ-loop : tie.MeasureT-loop
 μ-loop west east vertices edges zones index from to x made lo₀ hi₀ probes₀ lo hi probes = hi - lo
@@ -42,14 +42,14 @@ words c = indexLookUps (tables c) (c .args .index .now)
 
 -- what all probes find
 abbrev found : tie.Start Inv-loop μ-loop → Probed
-found c = probe (tables c) (words c) (c .args .x) 0 (c .args .to) (c .args .from) (c .args .to) (c .args .made)
+found c = probe (tables c) (words c) (c .args .x) (c .args .to) (c .args .from) (c .args .to) (c .args .made)
 
 -- the call's start, from after the look
 abbrev start : tie.After-look Inv-loop μ-loop → tie.Start Inv-loop μ-loop
 start c = c .before .before .before .before .before .before
 
 -- the look is at the entry in the middle
-looked : (c : tie.After-look Inv-loop μ-loop) → look (tables (start c)) (words (start c)) (start c .args .x) 0 (words (start c) .entry ((c .before .before .before .loop .lo + c .before .before .before .loop .hi) / 2)) ≡ c .look .result
+looked : (c : tie.After-look Inv-loop μ-loop) → look (tables (start c)) (words (start c)) (start c .args .x) (words (start c) .entry ((c .before .before .before .loop .lo + c .before .before .before .loop .hi) / 2)) ≡ c .look .result
 looked c =
     sym (c .look .ensures ∙ ap (judgedLook (tables (start c)) (start c .args .x)) (c .before .entry-at .ensures))
 

@@ -12,8 +12,9 @@ use Rattle.subdivision.specs.Lowest.{lowest}
 use Rattle.subdivision.specs.Sheet.{Sheet, sheetOf, vertexCount, edgeCount}
 use Rattle.subdivision.specs.Rules.{vertexRegular, edgeClear, namesAgree}
 use Rattle.subdivision.specs.Refusals.{Refusal, judged, countsKept, limitRefusals}
+use Rattle.subdivision.specs.Faults.{AllKept}
 use Rattle.subdivision.specs.Accepted.{Rule1, Rule2, Rule4}
-use Rattle.theory.proofs.Judgement.{AllKept, passed-keeps, lowest-all-means}
+use Rattle.theory.proofs.Judgement.{passed-keeps, lowest-all-means}
 use Rattle.theory.proofs.Lowest.{lowest-le}
 use Rattle.sheet.specs.Judgement.{recordRefusals, drawingRefusals}
 use Rattle.sheet.proofs.Scans.{found, none-found}

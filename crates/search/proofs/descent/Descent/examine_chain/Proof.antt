@@ -23,7 +23,7 @@ lookUps c = indexLookUps (tables c) (c .args .index .now)
 
 -- the starts of the chain are sound
 abbrev sound : tie.Start → Formula
-sound c = startsSound (tables c) (lookUps c) (c .args .x) (c .args .y) (c .args .self .k)
+sound c = startsSound (tables c) (lookUps c) (c .args .self .k)
 
 start-of-requires : tie.Need-start-of-requires
 start-of-requires c κs = search needs

@@ -25,7 +25,7 @@ lookUps c = indexLookUps (tables c) (c .args .index .now)
 
 -- the places of the edge's zones are sound
 abbrev sound : tie.Start → Formula
-sound c = placesSound (tables c) (lookUps c) (c .args .x) (c .args .y) (c .args .self .k) (c .args .e)
+sound c = placesSound (tables c) (lookUps c) (c .args .self .k) (c .args .e)
 
 -- the side of the edge on which the point lies
 abbrev pointSide : tie.Start → Side

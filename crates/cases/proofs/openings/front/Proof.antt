@@ -2,14 +2,14 @@
 use Prim.Native.Nat.{_≤_, _-_}
 use lib.ListN.{length}
 use borrow.Author.Needs.{needs}
-use Rattle.cases.proofs.openings.words.Statement.{statement}
-use Rattle.cases.proofs.openings.words.Tie as tie
+use Rattle.cases.proofs.openings.front.Statement.{statement}
+use Rattle.cases.proofs.openings.front.Tie as tie
 
 abbrev Inv-loop : tie.InvT-loop
-Inv-loop index i₀ t3 i = i ≤ length index
+Inv-loop words count i₀ i = i ≤ length words
 
 abbrev μ-loop : tie.MeasureT-loop
-μ-loop index i₀ t3 i = length index - i
+μ-loop words count i₀ i = length words - i
 
 loop-holds : tie.Need-loop-holds Inv-loop μ-loop
 loop-holds c = search needs
@@ -32,17 +32,11 @@ loop-less c = search needs
 loop-again : tie.Need-loop-again Inv-loop μ-loop
 loop-again c = search needs
 
-slice-aggregate-text : tie.Need-slice-aggregate-text Inv-loop μ-loop
-slice-aggregate-text c = search needs
-
-text-requires : tie.Need-text-requires Inv-loop μ-loop
-text-requires c κs = search needs
-
 returns : tie.Need-returns Inv-loop μ-loop
 returns c = search needs
 
-pub words-spec : {M : Type 1} → statement M
-words-spec =
+pub front-spec : {M : Type 1} → statement M
+front-spec =
     tie.close
     (tie.spec
     Inv-loop
@@ -54,6 +48,4 @@ words-spec =
     add-i
     loop-less
     loop-again
-    slice-aggregate-text
-    text-requires
     returns)
