@@ -7,7 +7,7 @@ use native.Mathlib.Omega.{arith}
 use lib.ListN.{length, take, drop, length-append}
 use lib.Seq.{take-append-seam, drop-append-add, drop-drop}
 use Rattle.subdivision.specs.Lists.{put}
-use Rattle.subdivision.specs.Layout.{zoneWord, startWord, entryWord}
+use Rattle.subdivision.specs.Layout.{placeWord, zoneWord, startWord, entryWord}
 
 -- a list with words written over it from a place on
 abbrev pub over : List ℕ → List ℕ → ℕ → List ℕ
@@ -19,13 +19,13 @@ put-more done words lent at e =
     rw (e, take-append-seam, drop-append-add, drop-drop, append-assoc, length-append)
 
 -- the four parts of an index, each written where Layout.antt has it
-pub parts-put : (place line starts entries lent first second third fourth : List ℕ) (a b c : ℕ)
+pub parts-put : (place line starts entries lent first second third fourth : List ℕ) (o a b c : ℕ)
     → length place ≡ length line → length starts ≡ suc (length line)
-    → a ≡ zoneWord (length line) 0 → b ≡ startWord (length line) 0 → c ≡ entryWord (length line) 0
-    → first ≡ over place lent 0 → second ≡ over line first a → third ≡ over starts second b → fourth ≡ over entries third c
+    → o ≡ placeWord (length line) 0 → a ≡ zoneWord (length line) 0 → b ≡ startWord (length line) 0 → c ≡ entryWord (length line) 0
+    → first ≡ over place lent o → second ≡ over line first a → third ≡ over starts second b → fourth ≡ over entries third c
     → fourth ≡ put (place ++ (line ++ (starts ++ entries))) lent
-parts-put place line starts entries lent first second third fourth a b c long more p q r e f g h =
-    let one : first ≡ put place lent = e ∙ rw zero-add in
+parts-put place line starts entries lent first second third fourth o a b c long more n p q r e f g h =
+    let one : first ≡ put place lent = e ∙ rw (n, zero-add) in
     let two : second ≡ put (place ++ line) lent = f ∙ rw one (put-more place line lent a (omega arith)) in
     let three : third ≡ put (place ++ line ++ starts) lent =
     g ∙ rw two (put-more (place ++ line) starts lent b (omega (arith, length-append place line))) in

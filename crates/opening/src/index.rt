@@ -6,6 +6,7 @@ use geometry::tables::word;
 use numbers::dyadic::lca;
 use numbers::groups;
 use numbers::layout::entry_word;
+use numbers::layout::place_word;
 use numbers::layout::start_word;
 use numbers::layout::zone_word;
 use numbers::order::sort;
@@ -102,10 +103,11 @@ fn parts(place: &[u32], line: &[u32], starts: &[u32], entries: &[u32], index: &m
     ensures { λ _. ⌜ now (index .exit) ≡ put (now (place .entry) ++ (now (line .entry) ++ (now (starts .entry) ++ now (entries .entry)))) (now (index .entry)) ⌝ }
 {
     let n = line.len() as u32;
+    let places_at = place_word(n, 0);
     let zones_at = zone_word(n, 0);
     let starts_at = start_word(n, 0);
     let entries_at = entry_word(n, 0);
-    write(place, index, 0);
+    write(place, index, places_at);
     write(line, index, zones_at);
     write(starts, index, starts_at);
     write(entries, index, entries_at);

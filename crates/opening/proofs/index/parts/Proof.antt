@@ -7,6 +7,9 @@ use Rattle.opening.proofs.index.parts.Tie as tie
 cast-n : tie.Need-cast-n
 cast-n c = search needs
 
+place-word-requires : tie.Need-place-word-requires
+place-word-requires c κs = search needs
+
 zone-word-requires : tie.Need-zone-word-requires
 zone-word-requires c κs = search needs
 
@@ -40,12 +43,13 @@ returns c =
     let entries = first .before .before in
     let starts = entries .before in
     let zones = starts .before in
-    let start = zones .before .before .before .before .before .before in
+    let places = zones .before in
+    let start = places .before .before .before .before .before .before in
     let a = start .args in
     parts-put (a .place .now) (a .line .now) (a .starts .now) (a .entries .now) (a .index .now)
     (first .write .last .1 .0) (second .write2 .last .1 .0) (third .write3 .last .1 .0) (fourth .write4 .last .1 .0)
-    (zones .zone-word .result) (starts .start-word .result) (entries .entry-word .result) (start .pre .1 .0) (start .pre .1 .1)
-    (zones .zone-word .ensures) (starts .start-word .ensures) (entries .entry-word .ensures)
+    (places .place-word .result) (zones .zone-word .result) (starts .start-word .result) (entries .entry-word .result) (start .pre .1 .0) (start .pre .1 .1)
+    (places .place-word .ensures) (zones .zone-word .ensures) (starts .start-word .ensures) (entries .entry-word .ensures)
     (first .write .ensures) (second .write2 .ensures) (third .write3 .ensures) (fourth .write4 .ensures)
 
 pub parts-spec : {M : Type 1} → statement M
@@ -53,6 +57,7 @@ parts-spec =
     tie.close
     (tie.spec
     cast-n
+    place-word-requires
     zone-word-requires
     start-word-requires
     entry-word-requires

@@ -1,4 +1,6 @@
 -- The tests send the step to a son or to its chain, as they send the turn.
+use Prim.Native.Nat.{_<_, _≤_}
+use native.Mathlib.Omega.{arith}
 use borrow.Author.Needs.{needs}
 use Rattle.subdivision.specs.Sheet.{Sheet}
 use Rattle.search.specs.Steps.{sheetAt}
@@ -17,7 +19,8 @@ returns : tie.Need-returns
 returns c =
     let start = c .before .before .before .before .before in
     let a = start .args in
-    turn-left (tables start) (a .index .now) (a .x) (a .y) (a .self) (start .pre .0 .0) (c .before .if1 .taken) (c .left .ensures)
+    let beyond : a .self .j < a .self .k = omega (arith, c .before .if1 .taken) in
+    turn-left (tables start) (a .index .now) (a .x) (a .y) (a .self) (start .pre .0 .0) beyond (c .left .ensures)
 
 right-requires : tie.Need-right-requires
 right-requires c κs = search needs
@@ -26,7 +29,9 @@ returns-2 : tie.Need-returns-2
 returns-2 c =
     let start = c .before .before .before .before .before .before .before in
     let a = start .args in
-    turn-right (tables start) (a .index .now) (a .x) (a .y) (a .self) (start .pre .0 .0) (c .before .before .before .if1 .left) (c .before .if2 .taken) (c .right .ensures)
+    let within : a .self .k ≤ a .self .j = omega (arith, c .before .before .before .if1 .left) in
+    let passed : a .self .k ≤ a .self .i = omega (arith, c .before .if2 .taken) in
+    turn-right (tables start) (a .index .now) (a .x) (a .y) (a .self) (start .pre .0 .0) within passed (c .right .ensures)
 
 examine-chain-requires : tie.Need-examine-chain-requires
 examine-chain-requires c κs = search needs
@@ -35,7 +40,9 @@ returns-3 : tie.Need-returns-3
 returns-3 c =
     let start = c .before .before .before .before .before .before .before in
     let a = start .args in
-    turn-examines (tables start) (a .index .now) (a .x) (a .y) (a .self) (c .examine-chain .result) (start .pre .0 .0) (c .before .before .before .if1 .left) (c .before .if2 .left) (c .examine-chain .ensures)
+    let within : a .self .k ≤ a .self .j = omega (arith, c .before .before .before .if1 .left) in
+    let ahead : a .self .i < a .self .k = omega (arith, c .before .if2 .left) in
+    turn-examines (tables start) (a .index .now) (a .x) (a .y) (a .self) (c .examine-chain .result) (start .pre .0 .0) within ahead (c .examine-chain .ensures)
 
 pub step-spec : {M : Type 1} → statement M
 step-spec =
