@@ -156,7 +156,7 @@ fn searched(s: &Sheet, index: &[u32], x: i64, y: i64, room: usize) -> ([u32; 5],
 }
 
 /// Searches for a point on the sheet, and compares all that comes back with the descent in plain Rust.
-fn compare(r: &mut Random, s: &Sheet, index: &[u32], x: i64, y: i64) -> Result<[u32; 3], Cause> {
+fn compare(r: &mut Random, s: &Sheet, index: &[u32], x: i64, y: i64) -> Result<Found, Cause> {
     let (n, m) = (s.zones as usize, s.edges.len() / 4);
     let room = bits(n - 1) + r.below(3) as usize;
     let (said, trail) = searched(s, index, x, y, room);
@@ -167,7 +167,7 @@ fn compare(r: &mut Random, s: &Sheet, index: &[u32], x: i64, y: i64) -> Result<[
             assert_eq!(said, [kind, number, item, found.trail.len() as u32, found.probes], "{}", context());
             assert_eq!(trail, found.trail, "{}", context());
             assert!(trail.len() <= bits(n - 1) && found.probes as usize <= bits(n - 1) * bits(m), "{}", context());
-            Ok(found.answer)
+            Ok(found)
         }
         Err(cause) => {
             assert_eq!(said, [0, 22, 0, 0, 0], "{}", context());
@@ -189,7 +189,7 @@ fn on_sheet(r: &mut Random, s: &Sheet) -> (i64, i64) {
     (x.clamp(s.west as i64, s.east as i64), y.clamp(-1_000_000, 1_000_000))
 }
 
-/// How often each kind of answer came, and how many points were at each margin.
+/// How often each kind of answer came, how many points were at each margin, and the most edges examined for one.
 #[derive(Default)]
 struct Counts {
     kinds: [usize; 4],
@@ -203,10 +203,8 @@ fn agree(r: &mut Random, s: &Sheet, points: usize, counts: &mut Counts) {
     let index = opened(r, s);
     for _ in 0..points {
         let (x, y) = on_sheet(r, s);
-        let found = compare(r, s, &index, x, y);
-        let answer = found.unwrap_or_else(|cause| panic!("{}: ({x}, {y}) of {s:?}", CAUSES[cause as usize]));
+        let Found { answer, trail, .. } = compare(r, s, &index, x, y).unwrap_or_else(|cause| panic!("{}: ({x}, {y}) of {s:?}", CAUSES[cause as usize]));
         assert_eq!(answer, read(s, x as i32, y as i32), "({x}, {y}) of {s:?}");
-        let (_, trail) = searched(s, &index, x, y, 10);
         assert!(trail.iter().enumerate().all(|(p, e)| !trail[..p].contains(e)), "an edge twice: ({x}, {y}) of {s:?}");
         counts.kinds[answer[0] as usize] += 1;
         counts.at_west += (x == s.west as i64) as usize;
