@@ -59,7 +59,7 @@ fn top_bits() {
 fn edge(e: u32) -> Segment {
     let vertices = VERTICES;
     let edges = EDGES;
-    geometry::tables::segment(&vertices, &edges, e)
+    tables::segment(&vertices, &edges, e)
 }
 
 fn western_x(e: u32) -> u64 {
@@ -72,7 +72,7 @@ fn eastward() {
     let keys = [western_x(0), western_x(1), western_x(2), western_x(3)];
     let mut order = [0u32; 4];
     let mut scratch = [0u32; 4];
-    numbers::order::sort(&keys, &mut order, &mut scratch);
+    sorting::order::sort(&keys, &mut order, &mut scratch);
     text(b"edges from west to east:");
     number(order[0]);
     number(order[1]);
@@ -92,9 +92,9 @@ fn side(s: Side) {
 // The side of edge e on which a point lies, if it covers the point's abscissa.
 fn against(e: u32, x: i32, y: i32) {
     let g = edge(e);
-    let px = geometry::tables::shifted(x);
-    let py = geometry::tables::shifted(y);
-    let margin = geometry::tables::shifted(4);
+    let px = tables::shifted(x);
+    let py = tables::shifted(y);
+    let margin = tables::shifted(4);
     if geometry::lines::covers(margin, g, px) {
         side(geometry::lines::side(g, px, py));
         number(e);
@@ -141,10 +141,10 @@ fn between(west: u32, east: u32, xw: i32, yw: i32, xe: i32, ye: i32) -> Segment 
     Segment {
         west: west,
         east: east,
-        xw: geometry::tables::shifted(xw),
-        yw: geometry::tables::shifted(yw),
-        xe: geometry::tables::shifted(xe),
-        ye: geometry::tables::shifted(ye),
+        xw: tables::shifted(xw),
+        yw: tables::shifted(yw),
+        xe: tables::shifted(xe),
+        ye: tables::shifted(ye),
     }
 }
 

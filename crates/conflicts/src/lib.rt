@@ -14,10 +14,10 @@ pub fn first_conflict(vertices: &[i32], edges: &[u32], count: u32) -> u32
 {
     let mut e: u32 = 0;
     'pairs: while e < count {
-        let h = geometry::tables::segment(vertices, edges, e);
+        let h = tables::segment(vertices, edges, e);
         let mut f: u32 = 0;
         while f < e {
-            let g = geometry::tables::segment(vertices, edges, f);
+            let g = tables::segment(vertices, edges, f);
             if geometry::lines::conflict(g, h) {
                 break 'pairs;
             }

@@ -1,10 +1,10 @@
 // Rule 5, names agree: refusal 11.
 use geometry::lines::smaller;
-use geometry::tables::shifted;
-use geometry::tables::vertex_x;
-use geometry::tables::word;
 use subdivision::MAX_EDGES;
 use subdivision::MAX_VERTICES;
+use tables::shifted;
+use tables::vertex_x;
+use tables::word;
 ghost use mathlib.Core.Path.{_≡_};
 ghost use mathlib.Core.Bool.{not, true, false};
 ghost use Prim.Native.Nat.{ℕ, _+_, _-_, _<_, _≤_, _/_};
@@ -41,7 +41,7 @@ fn fault_by_points(west: u32, vertices: &[i32], edges: &[u32], points: &mut [u32
     requires { ⌜ length (now points) ≡ length (now vertices) / 2 ⌝ }
     ensures { λ r. ⌜ r ≡ namesFault west (now (vertices .entry)) (now (edges .entry)) ⌝ }
 {
-    records::points::point_order(vertices, points);
+    repeats::point_order(vertices, points);
     names_fault(west, vertices, edges, points)
 }
 

@@ -1,6 +1,6 @@
-use geometry::tables::edge_east;
-use geometry::tables::edge_west;
 use subdivision::MAX_EDGES;
+use tables::edge_east;
+use tables::edge_west;
 ghost use mathlib.Core.Path.{_≡_};
 ghost use Prim.Native.Nat.{_+_, _≤_};
 ghost use lib.ListN.{length};
@@ -21,8 +21,8 @@ pub fn fan_order(edges: &[u32], eastern: bool, order: &mut [u32], starts: &mut [
     let mut keys = [0u64; MAX_EDGES];
     let mut scratch = [0u32; MAX_EDGES];
     fan_keys(edges, eastern, &mut keys);
-    numbers::order::sort(&keys, order, &mut scratch);
-    numbers::groups::starts(&keys, order, starts);
+    sorting::order::sort(&keys, order, &mut scratch);
+    sorting::groups::starts(&keys, order, starts);
 }
 
 // Writes to each place of `keys` the key that puts the edge of that number into its fan on one side.

@@ -1,7 +1,7 @@
 use geometry::lines::lower_beside;
-use geometry::tables::edge_above;
-use geometry::tables::edge_below;
-use geometry::tables::segment;
+use tables::edge_above;
+use tables::edge_below;
+use tables::segment;
 ghost use mathlib.Core.Path.{_≡_};
 ghost use Rattle.subdivision.specs.Formula.{holds};
 ghost use Rattle.fans.specs.Fans.{isUnder, goesOn, furthest, nearer, nextIn, tied, fanTied, fansTied, vertexTied, marginTied, zoneBeside};

@@ -1,4 +1,3 @@
-// The tables read as geometry: words with a default past the end, shifted coordinates, covering, the
-// side of a point, and two edges in conflict. Nothing else multiplies coordinates.
+// Edges with their ends: covering, the side of a point, two edges in conflict, the lower of two edges beside a vertex. Nothing else
+// multiplies coordinates.
 pub mod lines;
-pub mod tables;

@@ -1,5 +1,2 @@
--- Laws of what `opening` writes, a file a subject.
-pub mod Packed
-pub mod Parts
-pub mod Places
+-- Laws of opening's promises.
 pub mod Promises

@@ -16,8 +16,6 @@ ghost use Rattle.subdivision.specs.Index.{indexWords};
 ghost use Rattle.subdivision.specs.Engine.{HoldsIndex};
 ghost use Rattle.subdivision.specs.Calls.{opening};
 
-mod index;
-
 // Opens a sheet: checks 1 to 13 in order, then writes the index to the front of `index`. A refusal writes nothing.
 pub fn open_sheet(
     west: i32,
@@ -48,6 +46,6 @@ pub fn open_sheet(
         Verdict::Passed => {}
     }
     let n = zones as usize;
-    index::write_index(vertices, edges, &line[..n], index);
+    indexing::write_index(vertices, edges, &line[..n], index);
     Verdict::Passed
 }

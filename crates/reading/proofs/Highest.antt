@@ -22,7 +22,7 @@ use Rattle.theory.proofs.Scale.{scaled}
 use Rattle.theory.proofs.Scaling.{one-scale}
 use Rattle.theory.proofs.SideViews.{SideView, view-plain}
 use Rattle.theory.proofs.Tops.{Highest, highest-new, highest-kept}
-use Rattle.reading.specs.Scans.{lowerBetween, takesOver, highestTo, edgeBeneath}
+use Rattle.scans.specs.Scans.{lowerBetween, takesOver, highestTo, edgeBeneath}
 
 module _ (s : Sheet) (x y : ℕ) where
   -- edge k takes the place of edge r in the scan

@@ -1,5 +1,3 @@
--- Laws of the plain reading's scans and promises, a file a subject.
-pub mod Answers
+-- Laws of the plain reading's promises, a file a subject.
 pub mod Highest
-pub mod OnePass
 pub mod Promises

@@ -1,31 +1,41 @@
 -- What the plain reading promises: its scans find what the definitions ask for, and its refusals are those of the table.
 use mathlib.Core.Path.{_≡_, refl, sym, ap, _∙_, subst}
 use mathlib.Core.Bool.{Bool, true, false, false≢true}
-use mathlib.Core.List.{[], _∷_}
+use mathlib.Core.List.{List, [], _∷_}
 use mathlib.Core.Logic.{_↔_}
 use Prim.Native.Nat.{ℕ}
+use native.Mathlib.Omega.{arith}
 use lib.Dec.{ltb}
 use lib.IntN.{ℤ}
+use lib.ListN.{length, getD, drop, List·getD-append}
 use Rattle.subdivision.specs.declared.Answer.{Answer}
 use Rattle.subdivision.specs.declared.Verdict.{Verdict}
 use Rattle.subdivision.specs.declared.Verdict.the-variants.{Passed, Refused}
 use Rattle.subdivision.specs.Formula.{Formula, holds}
+use Rattle.subdivision.specs.Lists.{put}
 use Rattle.subdivision.specs.Lowest.{lowest}
 use Rattle.subdivision.specs.Sheet.{Sheet, shifted, eastMargin, vertexCount, edgeCount, aboveOf}
 use Rattle.subdivision.specs.Neighbours.{isHighest}
+use Rattle.subdivision.specs.ZoneLine.{zoneLine}
 use Rattle.subdivision.specs.Refusals.{names, unnamed, judged}
 use Rattle.subdivision.specs.Faults.{GivenBy, tableRefusals, readingRefusals}
 use Rattle.subdivision.specs.Accepted.{Accepted}
 use Rattle.subdivision.specs.Reading.{onSheet, firstZone, readingLine, beneath, zoneBeneath, plainReading}
 use Rattle.subdivision.specs.Placed.{OnSheet, OffVertices, OffEdges, OneThingOnly, ReadingsAgree}
 use Rattle.subdivision.specs.Calls.{reading}
+use Rattle.theory.proofs.Chains.{accepted-line}
 use Rattle.theory.proofs.Decide.{means}
 use Rattle.theory.proofs.Judgement.{judged-append, none-named, accepted-decides}
 use Rattle.theory.proofs.Faults.{reading-refused-exactly}
 use Rattle.theory.proofs.OneThing.{by-plain, one-thing, accepted-reads}
 use Rattle.theory.proofs.Readings.{zones-agree, read-so}
-use Rattle.reading.specs.Scans.{vertexAt, edgeOn, edgeBeneath, zoneFrom, placed}
+use Rattle.scans.specs.Scans.{vertexAt, edgeOn, edgeBeneath, zoneFrom, placed}
 use Rattle.reading.proofs.Highest.{highest-beneath}
+
+-- where an accepted sheet's line of zones is written over the front of lent words, the first word is its first zone
+pub first-of-line : (s : Sheet) → Accepted s → (lent : List ℕ) → getD (put (zoneLine s) lent) 0 0 ≡ firstZone s
+unfolding firstZone
+first-of-line s a lent = List·getD-append (zoneLine s) (drop (length (zoneLine s)) lent) 0 0 (omega (arith, accepted-line s a, a .counts .1 .1 .0))
 
 module _ (s : Sheet) (x y : ℕ) where
   plain-not-refused : (number item : ℕ) → plainReading s x y ≡ Answer.Refused number item → ⊥

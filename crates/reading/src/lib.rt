@@ -1,10 +1,10 @@
 // The plain reading of a point: the tables are judged, and then every vertex and every edge is looked at. It needs no index.
-use crate::points::place;
-use geometry::tables::shifted;
 use records::vertices::on_sheet;
+use scans::points::place;
 use subdivision::Answer;
 use subdivision::MAX_ZONES;
 use subdivision::Verdict;
+use tables::shifted;
 ghost use mathlib.Core.Path.{_≡_};
 ghost use mathlib.Core.Logic.{_↔_};
 ghost use Prim.Native.Nat.{ℕ};
@@ -13,9 +13,6 @@ ghost use Rattle.subdivision.specs.Sheet.{shifted, sheetOf};
 ghost use Rattle.subdivision.specs.Faults.{GivenBy, readingRefusals};
 ghost use Rattle.subdivision.specs.Placed.{OneThingOnly, ReadingsAgree};
 ghost use Rattle.subdivision.specs.Calls.{reading};
-
-mod beneath;
-mod points;
 
 // Reads the point (x, y): the vertex that it equals, else the edge that it lies on, else the zone; or
 // one of the refusals 1, 2, 4 to 13 and 20, in that order.

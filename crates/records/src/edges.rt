@@ -1,8 +1,8 @@
-use geometry::tables::edge_above;
-use geometry::tables::edge_below;
-use geometry::tables::edge_east;
-use geometry::tables::edge_west;
-use geometry::tables::vertex_x;
+use tables::edge_above;
+use tables::edge_below;
+use tables::edge_east;
+use tables::edge_west;
+use tables::vertex_x;
 ghost use mathlib.Core.Path.{_≡_};
 ghost use mathlib.Core.Bool.{not};
 ghost use mathlib.Core.List.{[]};

@@ -1,6 +1,4 @@
-// The written rules, record by record: refusals 4 to 9 and 12, each as the lowest record at fault.
+// The written rules, record by record: refusals 4, 6, 7 and 8, each as the lowest record at fault; and what they ask of a point or a
+// record.
 pub mod edges;
-mod marking;
-pub mod points;
 pub mod vertices;
-pub mod zones;

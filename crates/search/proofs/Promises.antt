@@ -26,7 +26,7 @@ use Rattle.theory.proofs.Decide.{held, fails}
 use Rattle.theory.proofs.Judgement.{refused-first, passed-first, none-named}
 use Rattle.theory.proofs.SearchRefusals.{search-refused-exactly, refused-leaves}
 use Rattle.theory.proofs.ThirdDemand.{search-bounded, third-demand}
-use Rattle.search.specs.Steps.{foundBy, trailOf}
+use Rattle.descent.specs.Steps.{foundBy, trailOf}
 
 module _ (s : Sheet) (index : List ℕ) (x y : ℤ) (lent : List ℕ) where
   -- the promises of a result and the trail left, in the order of the contract

@@ -1,7 +1,6 @@
 // The quick search: the published descent through separating chains, over the words of a lent index.
-use crate::descent::descend;
-use crate::descent::refused;
-use geometry::tables::shifted;
+use descent::descend;
+use descent::refused;
 use numbers::dyadic::bit_length;
 use numbers::layout::need;
 use numbers::words::write;
@@ -9,6 +8,7 @@ use records::vertices::on_sheet;
 use subdivision::Found;
 use subdivision::MAX_EXAMINED;
 use subdivision::Verdict;
+use tables::shifted;
 ghost use mathlib.Core.Path.{_≡_};
 ghost use mathlib.Core.Logic.{_↔_};
 ghost use Prim.Native.Nat.{ℕ};
@@ -18,10 +18,6 @@ ghost use Rattle.subdivision.specs.Sheet.{shifted, sheetOf};
 ghost use Rattle.subdivision.specs.Damage.{SearchRefuses};
 ghost use Rattle.subdivision.specs.Engine.{CountsBounded, ThirdDemand};
 ghost use Rattle.subdivision.specs.Calls.{searching};
-
-mod chains;
-mod descent;
-mod words;
 
 // Searches for the point (x, y) by the words of `index`, and writes the edges examined, in order, to
 // the front of `trail`; or gives one of the refusals 1, 2, 3, 20, 21 and 22, in that order, and

@@ -34,8 +34,8 @@ pub fn counts_kept(vertices: &[i32], edges: &[u32], zones: u32) -> bool
 pub fn margins_kept(west: i32, east: i32) -> bool
     ensures { λ r. ⌜ r ≡ holds (marginsKept (sheetOf west east [] [] 0)) ⌝ }
 {
-    let w = geometry::tables::shifted(west);
-    let e = geometry::tables::shifted(east);
+    let w = tables::shifted(west);
+    let e = tables::shifted(east);
     if !records::vertices::in_range(w) {
         return false;
     }

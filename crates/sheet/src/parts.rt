@@ -29,7 +29,7 @@ pub fn judge_records(west: i32, east: i32, vertices: &[i32], edges: &[u32], zone
     if outside < v {
         return Verdict::Refused(4, outside);
     }
-    let repeat = records::points::first_repeat(vertices, v);
+    let repeat = repeats::first_repeat(vertices, v);
     if repeat < v {
         return Verdict::Refused(5, repeat);
     }
@@ -56,7 +56,7 @@ pub fn judge_drawing(west: i32, east: i32, vertices: &[i32], edges: &[u32], zone
 {
     let v = (vertices.len() / 2) as u32;
     let m = (edges.len() / 4) as u32;
-    let irregular = records::vertices::first_irregular(west, east, vertices, edges);
+    let irregular = marks::vertices::first_irregular(west, east, vertices, edges);
     if irregular < v {
         return Verdict::Refused(9, irregular);
     }
@@ -85,7 +85,7 @@ pub fn judge_zones(
     ensures verdict { λ r. ⌜ r ≡ judged (zoneRefusals (sheetOf west east (now (vertices .entry)) (now (edges .entry)) zones)) ⌝ }
     ensures written { λ r. ⌜ now (line .exit) ≡ lineLeft (sheetOf west east (now (vertices .entry)) (now (edges .entry)) zones) r (now (line .entry)) ⌝ }
 {
-    let unnamed = records::zones::first_unnamed(vertices, edges, zones);
+    let unnamed = marks::zones::first_unnamed(vertices, edges, zones);
     if unnamed < zones {
         return Verdict::Refused(12, unnamed);
     }

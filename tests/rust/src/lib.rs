@@ -5,7 +5,7 @@ pub mod sheets;
 use sheets::Sheet;
 
 mod exported {
-    #[link(name = "exports", kind = "static")]
+    #[link(name = "leaves", kind = "static")]
     extern "C" {
         pub fn tw_bit_length(k: u32) -> u32;
         pub fn tw_top_bit(k: u32) -> u32;
@@ -14,6 +14,10 @@ mod exported {
         pub fn tw_covers(vertices: *const i32, vertices_len: usize, edges: *const u32, edges_len: usize, east: i32, e: u32, x: i32) -> u32;
         pub fn tw_side(vertices: *const i32, vertices_len: usize, edges: *const u32, edges_len: usize, e: u32, x: i32, y: i32) -> i32;
         pub fn tw_conflict(vertices: *const i32, vertices_len: usize, edges: *const u32, edges_len: usize, e: u32, f: u32) -> u32;
+    }
+
+    #[link(name = "exports", kind = "static")]
+    extern "C" {
         pub fn tw_open(west: i32, east: i32, vertices: *const i32, vertices_len: usize, edges: *const u32, edges_len: usize, zones: u32, index: *mut u32, index_len: usize, out: *mut u32);
         pub fn tw_read(west: i32, east: i32, vertices: *const i32, vertices_len: usize, edges: *const u32, edges_len: usize, zones: u32, x: i32, y: i32, out: *mut u32);
         pub fn tw_search(west: i32, east: i32, vertices: *const i32, vertices_len: usize, edges: *const u32, edges_len: usize, zones: u32, index: *const u32, index_len: usize, x: i32, y: i32, trail: *mut u32, trail_len: usize, out: *mut u32);

@@ -21,8 +21,8 @@ use Rattle.theory.proofs.Chains.{accepted-line, accepted-above}
 use Rattle.theory.proofs.Judgement.{passed-keeps, accepted-decides}
 use Rattle.theory.proofs.ZoneLine.{line-kept}
 use Rattle.sheet.specs.Judgement.{lineLeft}
-use Rattle.opening.specs.Packed.{packed}
-use Rattle.opening.proofs.Packed.{accepted-index}
+use Rattle.indexing.specs.Packed.{packed}
+use Rattle.indexing.proofs.Packed.{accepted-index}
 use Rattle.opening.proofs.Promises.{refusal-promised, opened-promised, refused-by-limits, no-room, with-room}
 use Rattle.opening.proofs.open_sheet.Statement.{statement}
 use Rattle.opening.proofs.open_sheet.Tie as tie

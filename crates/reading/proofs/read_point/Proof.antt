@@ -20,9 +20,8 @@ use Rattle.subdivision.specs.Accepted.{Accepted}
 use Rattle.subdivision.specs.Reading.{onSheet, firstZone}
 use Rattle.theory.proofs.Judgement.{accepted-decides}
 use Rattle.sheet.specs.Judgement.{lineLeft}
-use Rattle.reading.specs.Scans.{placed}
-use Rattle.reading.proofs.Answers.{first-of-line}
-use Rattle.reading.proofs.Promises.{Promised, refusal-promised, off-sheet-promised, placed-promised}
+use Rattle.scans.specs.Scans.{placed}
+use Rattle.reading.proofs.Promises.{Promised, first-of-line, refusal-promised, off-sheet-promised, placed-promised}
 use Rattle.reading.proofs.read_point.Statement.{statement}
 use Rattle.reading.proofs.read_point.Tie as tie
 

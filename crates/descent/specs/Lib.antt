@@ -1,0 +1,2 @@
+-- Definitions that the contracts of the descent cite.
+pub mod Steps

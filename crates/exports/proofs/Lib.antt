@@ -1,2 +1,0 @@
--- Laws that more than one proof of `exports` cites.
-pub mod Flags

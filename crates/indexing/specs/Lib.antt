@@ -1,0 +1,3 @@
+-- What the functions of `indexing` write.
+pub mod Keys
+pub mod Packed

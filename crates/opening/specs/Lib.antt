@@ -1,3 +1,0 @@
--- What the functions of `opening` write.
-pub mod Keys
-pub mod Packed

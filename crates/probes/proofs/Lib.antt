@@ -1,0 +1,3 @@
+-- Laws of shifted margins and of looks, a file a subject.
+pub mod Looks
+pub mod Margins

@@ -1,3 +1,0 @@
--- Laws of what the private functions of `records` say of their results, a file a subject.
-pub mod Marks
-pub mod Regular

@@ -1,2 +1,0 @@
--- Definitions that the quick search's contracts cite.
-pub mod Steps
