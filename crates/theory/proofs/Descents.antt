@@ -1,6 +1,6 @@
 -- A descent over any words of an index: it stays in its blocks, its counts are bounded, and it ends.
-use mathlib.Core.Path.{_≡_, refl, sym, _∙_, subst}
-use mathlib.Core.Bool.{true, false, false≢true}
+use mathlib.Core.Path.{_≡_, refl, sym, subst}
+use mathlib.Core.Bool.{true, false}
 use mathlib.Core.List.{List}
 use mathlib.Core.Logic.{_⊎_, inl, inr, ⊎-elim, by-cases}
 use Prim.Native.Nat.{ℕ, zero, suc, _+_, _-_, _*_, _<_, _≤_, zero-le}
@@ -18,7 +18,7 @@ use Rattle.theory.proofs.Blocks.{InBlock, left-block, right-block, top-
 use Rattle.theory.proofs.Dyadic.{topBit-le, topBit-pos}
 use Rattle.theory.proofs.Position.{length-snoc}
 use Rattle.theory.proofs.Probes.{probe-found}
-use Rattle.theory.proofs.Turns.{Examines, Onward, leftward, rightward, above, below, Answers, arrival, landing, turn-onward, turn-answered}
+use Rattle.theory.proofs.Turns.{Examines, Onward, leftward, rightward, above, below, Answers, arrival, landing, turn-onward, turn-answered, turns-answered}
 
 -- the turns that a descent has left at most
 abbrev pub turnsLeft : Descent → ℕ
@@ -201,23 +201,11 @@ module _ (s : Sheet) (index : List ℕ) (x y : ℕ) where
       go (answered a last) e rest = refl
       go damaged e rest = refl
 
-  turns-counts : (fuel : ℕ) (d last : Descent) (a : Answer) → Sound s d → turns s w x y fuel d ≡ answered a last
-      → Bounded s last
-  turns-counts zero d last a h e = absurd (false≢true cc)
-  turns-counts (suc fuel) d last a h e = go (turn s w x y d) refl e (λ next. turns-counts fuel next last a)
-    where
-      go : (t : Turn) → turn s w x y d ≡ t
-          → _≡_ {A = Turn} (elim t [ onward next ↦ turns s w x y fuel next | answered b end ↦ answered b end | damaged ↦ damaged ]) (answered a last)
-          → ((next : Descent) → Sound s next → turns s w x y fuel next ≡ answered a last → Bounded s last)
-          → Bounded s last
-      go (onward next) p m rest = rest next (turn-sound d next h p) m
-      go (answered b end) p m rest = answered-counts d last a h (p ∙ m)
-      go damaged p m rest = absurd (false≢true cc)
-
   -- a descent that ends with an answer has counted at most bits(n-1) edges, and at most bits(n-1) x bits(m) probes
   pub descent-counts : 1 ≤ zoneCount s → (a : Answer) (last : Descent) → indexDescent s index x y ≡ answered a last
       → (length (last .trail) ≤ bits (zoneCount s - 1)) × (last .probes ≤ bits (zoneCount s - 1) * bits (edgeCount s))
   unfolding indexDescent descent
   descent-counts n a last e =
-      let c = turns-counts (2 * zoneCount s) (start s) last a (start-sound s n) e in
+      let r = turns-answered s w x y (Sound s) turn-sound (2 * zoneCount s) (start s) last a (start-sound s n) e in
+      let c = answered-counts (r .0) last a (r .1) (r .2) in
       (c .0, le-trans (c .1) (mul-le-mul-right (bits (edgeCount s)) (c .0)))

@@ -1,15 +1,16 @@
 -- Look-ups that give what the tables give: on an accepted sheet no judgement of them breaks, and chains are probed alike.
-use mathlib.Core.Path.{_≡_, refl, ap, _∙_}
+use mathlib.Core.Path.{_≡_, refl, sym, ap, _∙_}
 use mathlib.Core.Bool.{Bool, true, false, not}
 use mathlib.Core.List.{List}
 use Prim.Native.Nat.{ℕ, _+_, _<_, _≤_}
+use native.Mathlib.Nat.{add-zero}
 use native.Mathlib.Omega.{arith}
 use Rattle.subdivision.specs.Formula.{Formula, notSo, holds, Means}
 use Rattle.subdivision.specs.Layout.{placeWord, zoneWord, startWord, entryWord}
 use Rattle.subdivision.specs.Sheet.{Sheet, edgeCount, zoneCount, westOf, eastOf}
 use Rattle.subdivision.specs.Accepted.{Accepted}
 use Rattle.subdivision.specs.Index.{placeOf, zoneAt, startOf, entryAt}
-use Rattle.subdivision.specs.Descent.{LookUps, breaks, startsSound, entrySound, look, probeChain, tableLookUps, indexLookUps}
+use Rattle.subdivision.specs.Descent.{LookUps, breaks, startsSound, entrySound, look, probe, probeChain, tableLookUps, indexLookUps}
 use Rattle.subdivision.specs.Engine.{HoldsIndex}
 use Rattle.theory.proofs.ChainCovers.{start-rises, start-within, entry-in-chain}
 use Rattle.theory.proofs.Decide.{held}
@@ -68,7 +69,7 @@ module _ (s : Sheet) (a : Accepted s) (w : LookUps) (f : Faithful s w) (x : ℕ)
     pub chain-probed-alike : (probes : ℕ) → probeChain s w x k probes ≡ probeChain s (tableLookUps s) x k probes
     chain-probed-alike probes =
         rw (start-same, next-start-same)
-        (probe-same s w (tableLookUps s) x (startOf s (k + 1)) (startOf s k) (startOf s (k + 1)) probes alike)
+        (ap (λ fuel. probe s w x fuel (startOf s k) (startOf s (k + 1)) probes) (sym (add-zero (startOf s (k + 1)))) ∙ probe-same s w (tableLookUps s) x (startOf s (k + 1)) 0 (startOf s k) (startOf s (k + 1)) probes (omega arith) alike)
       where
         alike : (t : ℕ) → startOf s k ≤ t → t < startOf s (k + 1)
             → (w .entry t ≡ entryAt s t) × (look s w x (w .entry t) ≡ look s (tableLookUps s) x (entryAt s t))

@@ -76,30 +76,6 @@ module _ (s : Sheet) (w : LookUps) (x : ℕ) where
   probe-none zero lo hi p h = refl
   probe-none (suc fuel) lo hi p h = rw (le-ltb lo hi h, probe)
 
-  -- as many probes as there are entries are enough
-  pub probe-enough : (fuel more lo hi p : ℕ) → hi - lo ≤ fuel → probe s w x (fuel + more) lo hi p ≡ probe s w x fuel lo hi p
-  probe-enough zero more lo hi p h = rw zero-add (probe-none more lo hi p (omega arith))
-  probe-enough (suc fuel) more lo hi p h =
-      rw suc-add (go (ltb lo hi) refl (probe-enough fuel more lo (middle lo hi) (suc p)) (probe-enough fuel more (middle lo hi + 1) hi (suc p)))
-    where
-      seen : (l : Look) → probe s w x (fuel + more) lo (middle lo hi) (suc p) ≡ probe s w x fuel lo (middle lo hi) (suc p)
-          → probe s w x (fuel + more) (middle lo hi + 1) hi (suc p) ≡ probe s w x fuel (middle lo hi + 1) hi (suc p)
-          → after (fuel + more) lo hi p l ≡ after fuel lo hi p l
-      seen Faulty west east = refl
-      seen West west east = west
-      seen Covering west east = refl
-      seen Beyond west east = east
-
-      go : (b : Bool) → ltb lo hi ≡ b
-          → (middle lo hi - lo ≤ fuel → probe s w x (fuel + more) lo (middle lo hi) (suc p) ≡ probe s w x fuel lo (middle lo hi) (suc p))
-          → (hi - (middle lo hi + 1) ≤ fuel → probe s w x (fuel + more) (middle lo hi + 1) hi (suc p) ≡ probe s w x fuel (middle lo hi + 1) hi (suc p))
-          → _≡_ {A = Probed} (elim b [ false ↦ Missing | true ↦ after (fuel + more) lo hi p (look s w x (w .entry (middle lo hi))) ])
-          (elim b [ false ↦ Missing | true ↦ after fuel lo hi p (look s w x (w .entry (middle lo hi))) ])
-      go false c west east = refl
-      go true c west east =
-          let some : lo < hi = ltb-true lo hi c in
-          seen (look s w x (w .entry (middle lo hi))) (west (omega arith)) (east (omega arith))
-
   -- where x is beyond every entry before t and west of every one after it, the covering entry t is found
   pub probe-finds : (t fuel lo hi p : ℕ) → lo ≤ t → t < hi → hi ≤ fuel + lo → look s w x (w .entry t) ≡ Covering
       → ((u : ℕ) → lo ≤ u → u < t → look s w x (w .entry u) ≡ Beyond)
@@ -119,32 +95,36 @@ module _ (s : Sheet) (w : LookUps) (x : ℕ) where
       at e = next Covering (ap (λ (k : ℕ). look s w x (w .entry k)) e ∙ here) (suc p, ap (λ (k : ℕ). Covered (w .entry k) (suc p)) e)
 
 module _ (s : Sheet) (w v : LookUps) (x : ℕ) where
-  -- look-ups with the same entries, seen alike, are probed alike
-  pub probe-same : (fuel lo hi p : ℕ)
+  -- look-ups with the same entries, seen alike, are probed alike, and as many probes as there are entries are enough
+  pub probe-same : (fuel more lo hi p : ℕ) → hi - lo ≤ fuel
       → ((t : ℕ) → lo ≤ t → t < hi → (w .entry t ≡ v .entry t) × (look s w x (w .entry t) ≡ look s v x (v .entry t)))
-      → probe s w x fuel lo hi p ≡ probe s v x fuel lo hi p
-  probe-same zero lo hi p alike = refl
-  probe-same (suc fuel) lo hi p alike =
-      go (ltb lo hi) refl
-      (λ h. probe-same fuel lo (middle lo hi) (suc p) (λ t b c. alike t b (omega arith)))
-      (λ h. probe-same fuel (middle lo hi + 1) hi (suc p) (λ t b c. alike t (omega arith) c))
+      → probe s w x (fuel + more) lo hi p ≡ probe s v x fuel lo hi p
+  probe-same zero more lo hi p h alike = rw zero-add (probe-none s w x more lo hi p (omega arith))
+  probe-same (suc fuel) more lo hi p h alike =
+      rw suc-add (go (ltb lo hi) refl
+      (λ some. probe-same fuel more lo (middle lo hi) (suc p) (omega arith) (λ t b c. alike t b (omega arith)))
+      (λ some. probe-same fuel more (middle lo hi + 1) hi (suc p) (omega arith) (λ t b c. alike t (omega arith) c)))
     where
       seen : (l : Look) → w .entry (middle lo hi) ≡ v .entry (middle lo hi)
-          → probe s w x fuel lo (middle lo hi) (suc p) ≡ probe s v x fuel lo (middle lo hi) (suc p)
-          → probe s w x fuel (middle lo hi + 1) hi (suc p) ≡ probe s v x fuel (middle lo hi + 1) hi (suc p)
-          → after s w x fuel lo hi p l ≡ after s v x fuel lo hi p l
+          → probe s w x (fuel + more) lo (middle lo hi) (suc p) ≡ probe s v x fuel lo (middle lo hi) (suc p)
+          → probe s w x (fuel + more) (middle lo hi + 1) hi (suc p) ≡ probe s v x fuel (middle lo hi + 1) hi (suc p)
+          → after s w x (fuel + more) lo hi p l ≡ after s v x fuel lo hi p l
       seen Faulty e west east = refl
       seen West e west east = west
       seen Covering e west east = ap (λ (k : ℕ). Covered k (suc p)) e
       seen Beyond e west east = east
 
       go : (b : Bool) → ltb lo hi ≡ b
-          → (lo < hi → probe s w x fuel lo (middle lo hi) (suc p) ≡ probe s v x fuel lo (middle lo hi) (suc p))
-          → (lo < hi → probe s w x fuel (middle lo hi + 1) hi (suc p) ≡ probe s v x fuel (middle lo hi + 1) hi (suc p))
-          → _≡_ {A = Probed} (elim b [ false ↦ Missing | true ↦ after s w x fuel lo hi p (look s w x (w .entry (middle lo hi))) ])
+          → (lo < hi → probe s w x (fuel + more) lo (middle lo hi) (suc p) ≡ probe s v x fuel lo (middle lo hi) (suc p))
+          → (lo < hi → probe s w x (fuel + more) (middle lo hi + 1) hi (suc p) ≡ probe s v x fuel (middle lo hi + 1) hi (suc p))
+          → _≡_ {A = Probed} (elim b [ false ↦ Missing | true ↦ after s w x (fuel + more) lo hi p (look s w x (w .entry (middle lo hi))) ])
           (elim b [ false ↦ Missing | true ↦ after s v x fuel lo hi p (look s v x (v .entry (middle lo hi))) ])
       go false c west east = refl
       go true c west east =
           let some : lo < hi = ltb-true lo hi c in
           let same = alike (middle lo hi) (omega arith) (omega arith) in
           seen (look s w x (w .entry (middle lo hi))) (same .0) (west some) (east some) ∙ ap (after s v x fuel lo hi p) (same .1)
+
+-- more probes than there are entries change nothing
+pub probe-enough : (s : Sheet) (w : LookUps) (x fuel more lo hi p : ℕ) → hi - lo ≤ fuel → probe s w x (fuel + more) lo hi p ≡ probe s w x fuel lo hi p
+probe-enough s w x fuel more lo hi p h = probe-same s w w x fuel more lo hi p h (λ t l b. (refl, refl))

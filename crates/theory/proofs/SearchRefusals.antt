@@ -3,7 +3,7 @@ use mathlib.Core.Path.{_≡_, refl, sym, ap, _∙_}
 use mathlib.Core.Bool.{Bool, true, false, false≢true}
 use mathlib.Core.List.{List}
 use mathlib.Core.Logic.{_⊎_, inl, inr, _↔_}
-use Prim.Native.Nat.{ℕ, zero, suc, _*_}
+use Prim.Native.Nat.{ℕ, _*_}
 use lib.IntN.{ℤ}
 use lib.ListN.{length}
 use Rattle.subdivision.specs.declared.Answer.{Answer}
@@ -16,12 +16,12 @@ use Rattle.subdivision.specs.Refusals.{Refusal, judged}
 use Rattle.subdivision.specs.Faults.{GivenBy, AllKept, searchRefusals}
 use Rattle.subdivision.specs.Damage.{ComesToFault, SearchRefuses}
 use Rattle.subdivision.specs.Reading.{isVertex}
-use Rattle.subdivision.specs.Descent.{LookUps, Descent, Turn, onward, answered, damaged, onEdge, turn, turns, start, descent, indexLookUps, indexDescent}
+use Rattle.subdivision.specs.Descent.{LookUps, Descent, Turn, answered, damaged, onEdge, turn, start, descent, indexLookUps, indexDescent}
 use Rattle.subdivision.specs.Calls.{Searched, searchRefused, searchAnswered, searchEnded, searching}
 use Rattle.theory.proofs.Damages.{damaged-exactly, answered-or-damaged}
 use Rattle.theory.proofs.Judgement.{passed-keeps, kept-passes}
 use Rattle.theory.proofs.Faults.{search-judged-exactly}
-use Rattle.theory.proofs.Turns.{Answers, arrival, landing, turn-answered}
+use Rattle.theory.proofs.Turns.{Answers, arrival, landing, turn-answered, turns-answered}
 
 -- ---- a descent answers, and refuses nothing
 
@@ -42,22 +42,13 @@ module _ (s : Sheet) (w : LookUps) (x y number item : ℕ) where
       go (arrival l z e m) = false≢true cc
       go (landing e q f g m n) = landed-unrefused e (sym m ∙ p)
 
-  turns-unrefused : (fuel : ℕ) (d last : Descent) (a : Answer) → turns s w x y fuel d ≡ answered a last → a ≡ Answer.Refused number item → ⊥
-  turns-unrefused zero d last a h p = false≢true cc
-  turns-unrefused (suc fuel) d last a h p = go (turn s w x y d) refl h (λ next m. turns-unrefused fuel next last a m p)
-    where
-      go : (t : Turn) → turn s w x y d ≡ t
-          → _≡_ {A = Turn} (elim t [ onward next ↦ turns s w x y fuel next | answered b end ↦ answered b end | damaged ↦ damaged ]) (answered a last)
-          → ((next : Descent) → turns s w x y fuel next ≡ answered a last → ⊥) → ⊥
-      go (onward next) e m rest = rest next m
-      go (answered b end) e m rest = turn-unrefused d last a (e ∙ m) p
-      go damaged e m rest = false≢true cc
-
 -- a descent that ends with an answer ends with no refusal
 pub descent-unrefused : (s : Sheet) (index : List ℕ) (x y : ℕ) (last : Descent) (a : Answer) → indexDescent s index x y ≡ answered a last
     → (number item : ℕ) → a ≡ Answer.Refused number item → ⊥
 unfolding indexDescent descent
-descent-unrefused s index x y last a h number item = turns-unrefused s (indexLookUps s index) x y number item (2 * zoneCount s) (start s) last a h
+descent-unrefused s index x y last a h number item =
+    let r = turns-answered s (indexLookUps s index) x y (λ _. Unit {0}) (λ d next k e. k) (2 * zoneCount s) (start s) last a tt h in
+    turn-unrefused s (indexLookUps s index) x y number item (r .0) last a (r .2)
 
 -- ---- the quick search by the verdict of its lines
 

@@ -1,7 +1,7 @@
--- One turn of a descent over any look-ups, read backwards: what was found where it goes onward, and where it answers.
-use mathlib.Core.Path.{_≡_, refl}
+-- The turns of a descent over any look-ups, read backwards: what a turn found where it goes onward, and where it answers.
+use mathlib.Core.Path.{_≡_, refl, subst, _∙_}
 use mathlib.Core.Bool.{Bool, true, false, not, false≢true}
-use Prim.Native.Nat.{ℕ, _<_, _≤_}
+use Prim.Native.Nat.{ℕ, zero, suc, _<_, _≤_}
 use lib.Dec.{leb, ltb}
 use borrow.Author.Tests.{ltb-true, ltb-false, leb-true, leb-false}
 use Rattle.subdivision.specs.declared.Answer.{Answer}
@@ -14,7 +14,7 @@ use Rattle.subdivision.specs.Formula.{Formula, isLess, isAtMost, holds, Means}
 use Rattle.subdivision.specs.Dyadic.{leftSon, rightSon}
 use Rattle.subdivision.specs.Sheet.{Sheet, zoneCount, aboveOf, belowOf, segment}
 use Rattle.subdivision.specs.Lines.{sideAt}
-use Rattle.subdivision.specs.Descent.{LookUps, Descent, Turn, onward, answered, damaged, breaks, startsSound, placesSound, probeChain, onEdge, toChain, past, stepped, examined, examine, arrived, turn}
+use Rattle.subdivision.specs.Descent.{LookUps, Descent, Turn, onward, answered, damaged, breaks, startsSound, placesSound, probeChain, onEdge, toChain, past, stepped, examined, examine, arrived, turn, turns}
 use Rattle.theory.proofs.Decide.{means}
 
 -- what is judged is kept
@@ -98,60 +98,53 @@ module _ (s : Sheet) (w : LookUps) (x y : ℕ) where
           (e, q, record { lower = l; upper = u; starts = k; probed = c; places = p .0 }, p .1)
       go Missing c k m = absurd (n m)
 
+  -- what a turn found, by what it leads to
+  abbrev LedTo : Descent → Turn → Type 0
+  LedTo d (onward next) = Onward d next
+  LedTo d (answered a last) = Answers d last a
+  LedTo d damaged = Unit {0}
+
+  turn-leads : (d : Descent) (r : Turn) → (damaged ≡ r → ⊥) → turn s w x y d ≡ r → LedTo d r
+  turn-leads d r n h = go (ltb (d .i) (d .j)) (ltb (d .j) (d .k)) (leb (d .k) (d .i)) refl refl refl h
+    where
+      side : (e q : ℕ) → Examines d e q → (t : Side) → sideAt (segment s e) x y ≡ t → sided d e q t ≡ r → LedTo d r
+      side e q f On c m = subst (LedTo d) m (landing e q f c refl refl)
+      side e q f Above c m =
+          let p = undamaged w (isAtMost (w .place (aboveOf s e)) (d .j)) (onward (past d e q (w .place (aboveOf s e)) (d .j))) r n m in
+          subst (LedTo d) (p .1) (above e q f c (p .0) refl)
+      side e q f Below c m =
+          let p = undamaged w (isAtMost (d .i) (w .place (belowOf s e))) (onward (past d e q (d .i) (w .place (belowOf s e)))) r n m in
+          subst (LedTo d) (p .1) (below e q f c (p .0) refl)
+
+      go : (a b c : Bool) → ltb (d .i) (d .j) ≡ a → ltb (d .j) (d .k) ≡ b → leb (d .k) (d .i) ≡ c → chosen d a b c ≡ r → LedTo d r
+      go false b c p q o m =
+          let z = undamaged w (isLess (w .zone (d .i)) (zoneCount s)) (answered (Zone (w .zone (d .i))) d) r n m in
+          subst (LedTo d) (z .1) (arrival (ltb-false (d .i) (d .j) p) (z .0) refl refl)
+      go true true c p q o m = subst (LedTo d) m (leftward (ltb-true (d .i) (d .j) p) (ltb-true (d .j) (d .k) q) refl)
+      go true false true p q o m = subst (LedTo d) m (rightward (ltb-true (d .i) (d .j) p) (leb-true (d .k) (d .i) o) refl)
+      go true false false p q o m =
+          let f = examine-finds d r (leb-false (d .k) (d .i) o) (ltb-false (d .j) (d .k) q) n m in
+          side (f .0) (f .1) (f .2) (sideAt (segment s (f .0)) x y) refl (f .3)
+
   -- a turn that goes onward was one of four
   pub turn-onward : (d next : Descent) → turn s w x y d ≡ onward next → Onward d next
-  turn-onward d next h = go (ltb (d .i) (d .j)) (ltb (d .j) (d .k)) (leb (d .k) (d .i)) refl refl refl h
-    where
-      apart : damaged ≡ onward next → ⊥
-      apart e = false≢true cc
-
-      side : (e q : ℕ) → Examines d e q → (t : Side) → sideAt (segment s e) x y ≡ t → sided d e q t ≡ onward next → Onward d next
-      side e q f On c m = absurd (false≢true cc)
-      side e q f Above c m =
-          let p = undamaged w (isAtMost (w .place (aboveOf s e)) (d .j)) (onward (past d e q (w .place (aboveOf s e)) (d .j))) (onward next) apart m in
-          above e q f c (p .0) cc
-      side e q f Below c m =
-          let p = undamaged w (isAtMost (d .i) (w .place (belowOf s e))) (onward (past d e q (d .i) (w .place (belowOf s e)))) (onward next) apart m in
-          below e q f c (p .0) cc
-
-      go : (a b c : Bool) → ltb (d .i) (d .j) ≡ a → ltb (d .j) (d .k) ≡ b → leb (d .k) (d .i) ≡ c → chosen d a b c ≡ onward next → Onward d next
-      go false b c p q r m =
-          let o = undamaged w (isLess (w .zone (d .i)) (zoneCount s)) (answered (Zone (w .zone (d .i))) d) (onward next) apart m in
-          let never = o .1 in absurd (false≢true cc)
-      go true true c p q r m = leftward (ltb-true (d .i) (d .j) p) (ltb-true (d .j) (d .k) q) cc
-      go true false true p q r m = rightward (ltb-true (d .i) (d .j) p) (leb-true (d .k) (d .i) r) cc
-      go true false false p q r m =
-          let f = examine-finds d (onward next) (leb-false (d .k) (d .i) r) (ltb-false (d .j) (d .k) q) apart m in
-          side (f .0) (f .1) (f .2) (sideAt (segment s (f .0)) x y) refl (f .3)
+  turn-onward d next h = turn-leads d (onward next) (λ e. false≢true cc) h
 
   -- a turn that answers was one of two
   pub turn-answered : (d last : Descent) (a : Answer) → turn s w x y d ≡ answered a last → Answers d last a
-  turn-answered d last a h = go (ltb (d .i) (d .j)) (ltb (d .j) (d .k)) (leb (d .k) (d .i)) refl refl refl h
+  turn-answered d last a h = turn-leads d (answered a last) (λ e. false≢true cc) h
+
+  -- turns that end with an answer come to a state whose turn answers so; what every turn onward keeps holds there
+  pub turns-answered : (Kept : Descent → Type 0) → ((d next : Descent) → Kept d → turn s w x y d ≡ onward next → Kept next)
+      → (fuel : ℕ) (d last : Descent) (a : Answer) → Kept d → turns s w x y fuel d ≡ answered a last
+      → (before : Descent) × Kept before × (turn s w x y before ≡ answered a last)
+  turns-answered Kept keeps zero d last a h e = absurd (false≢true cc)
+  turns-answered Kept keeps (suc fuel) d last a h e = go (turn s w x y d) refl e (λ next. turns-answered Kept keeps fuel next last a)
     where
-      apart : damaged ≡ answered a last → ⊥
-      apart e = false≢true cc
-
-      side : (e q : ℕ) → Examines d e q → (t : Side) → sideAt (segment s e) x y ≡ t → sided d e q t ≡ answered a last → Answers d last a
-      side e q f On c m =
-          let same : a ≡ onEdge s x y e = cc in
-          let state : last ≡ past d e q (d .i) (d .j) = cc in
-          landing e q f c same state
-      side e q f Above c m =
-          let p = undamaged w (isAtMost (w .place (aboveOf s e)) (d .j)) (onward (past d e q (w .place (aboveOf s e)) (d .j))) (answered a last) apart m in
-          let never = p .1 in absurd (false≢true cc)
-      side e q f Below c m =
-          let p = undamaged w (isAtMost (d .i) (w .place (belowOf s e))) (onward (past d e q (d .i) (w .place (belowOf s e)))) (answered a last) apart m in
-          let never = p .1 in absurd (false≢true cc)
-
-      go : (t u v : Bool) → ltb (d .i) (d .j) ≡ t → ltb (d .j) (d .k) ≡ u → leb (d .k) (d .i) ≡ v → chosen d t u v ≡ answered a last → Answers d last a
-      go false b c p q r m =
-          let o = undamaged w (isLess (w .zone (d .i)) (zoneCount s)) (answered (Zone (w .zone (d .i))) d) (answered a last) apart m in
-          let found = o .1 in
-          let same : a ≡ Zone (w .zone (d .i)) = cc in
-          let state : last ≡ d = cc in
-          arrival (ltb-false (d .i) (d .j) p) (o .0) same state
-      go true true c p q r m = absurd (false≢true cc)
-      go true false true p q r m = absurd (false≢true cc)
-      go true false false p q r m =
-          let f = examine-finds d (answered a last) (leb-false (d .k) (d .i) r) (ltb-false (d .j) (d .k) q) apart m in
-          side (f .0) (f .1) (f .2) (sideAt (segment s (f .0)) x y) refl (f .3)
+      go : (t : Turn) → turn s w x y d ≡ t
+          → _≡_ {A = Turn} (elim t [ onward next ↦ turns s w x y fuel next | answered b end ↦ answered b end | damaged ↦ damaged ]) (answered a last)
+          → ((next : Descent) → Kept next → turns s w x y fuel next ≡ answered a last → (before : Descent) × Kept before × (turn s w x y before ≡ answered a last))
+          → (before : Descent) × Kept before × (turn s w x y before ≡ answered a last)
+      go (onward next) p m rest = rest next (keeps d next h p) m
+      go (answered b end) p m rest = (d, h, p ∙ m)
+      go damaged p m rest = absurd (false≢true cc)
