@@ -9,6 +9,7 @@ use mir.Facts.{toZ-ofZ}
 use borrow.Author.Needs.{needs}
 use borrow.Author.Tests.{not-true, not-false}
 use lib.ListN.{length, take, drop, length-replicate, length-take}
+use lib.Seq.{length-take-le}
 use Rattle.subdivision.specs.declared.Found.{Found}
 use Rattle.subdivision.specs.declared.Verdict.{Verdict}
 use Rattle.subdivision.specs.Formula.{isAtMost, both, holds, Means}
@@ -211,13 +212,13 @@ array-share-prefix-examined : tie.Need-array-share-prefix-examined
 array-share-prefix-examined c = omega (arith, long (c .before), length-take (c .before .descend .result .examined) (array (c .before)))
 
 slice-aggregate-write : tie.Need-slice-aggregate-write
-slice-aggregate-write c = sym (long (c .before .before))
+slice-aggregate-write c = sym (length-take-le _ _ (array-share-prefix-examined (c .before)))
 
 write-requires : tie.Need-write-requires
 write-requires c κs =
     let k = c .before .before .before in
     let a = start (point k) .args in
-    omega (arith, long k, trail-room k, ended-few (tables (start (point k))) (a .index .now) (shifted (a .x)) (shifted (a .y)) (k .descend .result) (array k) (counts (passed (point k)) .1 .1 .0) (ended k))
+    omega (arith, slice-aggregate-write (c .before), trail-room k, ended-few (tables (start (point k))) (a .index .now) (shifted (a .x)) (shifted (a .y)) (k .descend .result) (array k) (counts (passed (point k)) .1 .1 .0) (ended k))
 
 same-length : tie.Need-same-length
 same-length c = search needs

@@ -1,4 +1,4 @@
--- `geometry::tables::coordinate` meets its contract.
+-- `tables::coordinate` meets its contract.
 use mathlib.Core.Path.{_∙_, sym, ap}
 use lib.IntN.{pos}
 use lib.ListN.{List·getD-eq-default}

@@ -1,4 +1,4 @@
--- `geometry::tables::segment` meets its contract.
+-- `tables::segment` meets its contract.
 use borrow.Author.Needs.{needs}
 use Rattle.tables.proofs.segment.Statement.{statement}
 use Rattle.tables.proofs.segment.Tie as tie

@@ -1,4 +1,4 @@
--- `geometry::tables::shifted` meets its contract: each signed number on the way fits, so reading its bits back changes nothing.
+-- `tables::shifted` meets its contract: each signed number on the way fits, so reading its bits back changes nothing.
 use mathlib.Core.Path.{_≡_, ap}
 use native.Mathlib.Omega.{arith}
 use lib.IntN.{ℤ, pos, natAbs, _+ℤ_}

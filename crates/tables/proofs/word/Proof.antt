@@ -1,4 +1,4 @@
--- `geometry::tables::word` meets its contract.
+-- `tables::word` meets its contract.
 use mathlib.Core.Path.{sym}
 use lib.ListN.{List·getD-eq-default}
 use borrow.Author.Needs.{needs}

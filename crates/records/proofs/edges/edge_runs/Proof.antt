@@ -1,4 +1,4 @@
--- `geometry` reads both abscissas, and the rule is their order.
+-- `tables` reads both abscissas, and the rule is their order.
 use borrow.Author.Needs.{needs}
 use Rattle.records.proofs.edges.edge_runs.Statement.{statement}
 use Rattle.records.proofs.edges.edge_runs.Tie as tie

@@ -1,4 +1,4 @@
--- `geometry` reads both zones, and the rule is that they differ.
+-- `tables` reads both zones, and the rule is that they differ.
 use borrow.Author.Needs.{needs}
 use Rattle.records.proofs.edges.zones_differ.Statement.{statement}
 use Rattle.records.proofs.edges.zones_differ.Tie as tie
