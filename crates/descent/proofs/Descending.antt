@@ -3,7 +3,7 @@ use mathlib.Core.Path.{_≡_, refl, sym, ap, _∙_, subst}
 use mathlib.Core.Bool.{Bool, true, false, not}
 use mathlib.Core.List.{List, [], _∷_, _++_}
 use mathlib.Core.Logic.{by-cases}
-use Prim.Native.Nat.{ℕ, zero, suc, _+_, _-_, _*_, _<_, _≤_, zero-le}
+use Prim.Native.Nat.{ℕ, _+_, _-_, _<_, _≤_, zero-le}
 use native.Mathlib.Nat.{le-trans, mul-le-mul}
 use native.Mathlib.Numerals.{add-one}
 use native.Mathlib.Decide.{decLt}
@@ -18,10 +18,10 @@ use Rattle.subdivision.specs.Limits.{maxEdges, maxZones, maxExamined}
 use Rattle.subdivision.specs.Dyadic.{bits, topBit}
 use Rattle.subdivision.specs.Layout.{zoneWord}
 use Rattle.subdivision.specs.Sheet.{Sheet, edgeCount, zoneCount}
-use Rattle.subdivision.specs.Descent.{LookUps, Turn, onward, answered, damaged, onEdge, turn, turns, descent, indexLookUps, indexDescent}
+use Rattle.subdivision.specs.Descent.{LookUps, Turn, onward, answered, damaged, onEdge, turn, indexLookUps, indexDescent}
 use Rattle.subdivision.specs.Descent as defined
 use Rattle.theory.proofs.Dyadic.{bits-le}
-use Rattle.theory.proofs.Descents.{Sound, turnsLeft, start-sound, start-left, left-some, turn-sound, turn-falls, answered-counts, descent-counts}
+use Rattle.theory.proofs.Descents.{turnsLeft, turn-sound, turn-falls, leads, Rest, start-rest, rest-onward, rest-ends, answered-counts, descent-counts}
 use Rattle.descent.specs.declared.Descent.{Descent}
 use Rattle.descent.specs.declared.Step.{Step}
 use Rattle.descent.specs.declared.Step.the-variants.{Son, Past, On, Damaged}
@@ -40,15 +40,12 @@ module _ (s : Sheet) (index : List ℕ) (x y : ℕ) where
   abbrev w : LookUps
   w = indexLookUps s index
 
-  -- a state that the loop reaches, with its array: the array has room, and lists as many edges as are counted; the state is sound, and
-  -- the turns that are left end as the whole descent does
+  -- a state that the loop reaches, with its array: the array has room, and lists as many edges as are counted; the rest of the descent is
+  -- that from this state
   pub record Reached (d : Descent) (array : List ℕ) : Type 0 where
     pub room : bits (zoneCount s - 1) ≤ length array
     pub counted : length (listed d array) ≡ d .examined
-    pub sound : Sound s (stateOf d (listed d array))
-    pub fuel : ℕ
-    pub enough : turnsLeft (stateOf d []) ≤ fuel
-    pub same : turns s w x y fuel (stateOf d (listed d array)) ≡ indexDescent s index x y
+    pub rest : Rest s index x y (stateOf d (listed d array))
 
   -- what the loop finds and lists is what the whole descent does
   abbrev pub Ended : Found → List ℕ → Type 0
@@ -69,13 +66,7 @@ module _ (s : Sheet) (index : List ℕ) (x y : ℕ) where
 
   pub start-reached : (array : List ℕ) → 1 ≤ zoneCount s → bits (zoneCount s - 1) ≤ length array
       → Reached (record { i = 0; j = zoneCount s - 1; k = topBit (zoneCount s - 1); examined = 0; probes = 0 }) array
-  unfolding indexDescent descent
-  start-reached array h room =
-      record { room = room; counted = refl; sound = start-sound s h; fuel = 2 * zoneCount s; enough = start-left s h; same = refl }
-
-  -- what a turn leads to, with so many turns left
-  abbrev after : ℕ → Turn → Turn
-  after fuel t = elim t [ onward next ↦ turns s w x y fuel next | answered a last ↦ answered a last | damaged ↦ damaged ]
+  start-reached array h room = record { room = room; counted = refl; rest = start-rest s index x y h }
 
   module _ (d : Descent) (array : List ℕ) (r : Reached d array) where
     abbrev from : defined.Descent
@@ -84,10 +75,10 @@ module _ (s : Sheet) (index : List ℕ) (x y : ℕ) where
     -- what a step requires
     pub step-allowed : zoneCount s ≤ maxZones → edgeCount s ≤ maxEdges → (d .j ≤ maxZones) × ((d .examined < maxZones) × (d .probes ≤ 2147483648))
     step-allowed n m =
-        (omega (arith, r .sound .inside), (omega (arith, r .counted, long), omega (arith, le-trans (r .sound .probed) (mul-le-mul long wide))))
+        (omega (arith, r .rest .sound .inside), (omega (arith, r .counted, long), omega (arith, le-trans (r .rest .sound .probed) (mul-le-mul long wide))))
       where
         long : length (listed d array) ≤ maxExamined
-        long = le-trans (r .sound .counted) (few-edges (zoneCount s) n)
+        long = le-trans (r .rest .sound .counted) (few-edges (zoneCount s) n)
 
         wide : bits (edgeCount s) ≤ 12
         wide = bits-le 12 (edgeCount s) (omega arith)
@@ -95,27 +86,17 @@ module _ (s : Sheet) (index : List ℕ) (x y : ℕ) where
     -- a turn that goes onward reaches the next state
     goes-on : (next : Descent) (more : List ℕ) → bits (zoneCount s - 1) ≤ length more → length (listed next more) ≡ next .examined
         → turn s w x y from ≡ onward (stateOf next (listed next more)) → Onward d next more
-    goes-on next more room count e = (falls, go (r .fuel) (r .enough) (r .same))
+    goes-on next more room count e =
+        (turn-falls s index x y from to (r .rest .sound) e, record { room = room; counted = count; rest = rest-onward s index x y from to (r .rest) e })
       where
         to : defined.Descent
         to = stateOf next (listed next more)
 
-        falls : turnsLeft (stateOf next []) < turnsLeft (stateOf d [])
-        falls = turn-falls s index x y from to (r .sound) e
-
-        go : (fuel : ℕ) → turnsLeft (stateOf d []) ≤ fuel → turns s w x y fuel from ≡ indexDescent s index x y → Reached next more
-        go zero l m = absurd (omega (arith, left-some s from (r .sound)))
-        go (suc fuel) l m =
-            record { room = room; counted = count; sound = turn-sound s index x y from to (r .sound) e; fuel = fuel; enough = omega (arith, falls); same = sym (ap (after fuel) e) ∙ m }
-
     -- a turn that does not go onward ends the descent
-    ends : (t : Turn) (f : Found) (left : List ℕ) → ((fuel : ℕ) → after fuel t ≡ t) → turn s w x y from ≡ t → f ≡ foundBy t → take (f .examined) left ≡ trailOf t
+    ends : (t : Turn) (f : Found) (left : List ℕ) → ((fuel : ℕ) → leads s index x y fuel t ≡ t) → turn s w x y from ≡ t → f ≡ foundBy t → take (f .examined) left ≡ trailOf t
         → Ended f left
-    ends t f left stops e found trail = let whole = sym (go (r .fuel) (r .enough) (r .same)) in (found ∙ ap foundBy whole, trail ∙ ap trailOf whole)
-      where
-        go : (fuel : ℕ) → turnsLeft (stateOf d []) ≤ fuel → turns s w x y fuel from ≡ indexDescent s index x y → indexDescent s index x y ≡ t
-        go zero l m = absurd (omega (arith, left-some s from (r .sound)))
-        go (suc fuel) l m = sym m ∙ ap (after fuel) e ∙ stops fuel
+    ends t f left stops e found trail =
+        let whole = sym (rest-ends s index x y from t stops (r .rest) e) in (found ∙ ap foundBy whole, trail ∙ ap trailOf whole)
 
     -- the edges listed with one more
     abbrev with : ℕ → List ℕ
@@ -138,7 +119,7 @@ module _ (s : Sheet) (index : List ℕ) (x y : ℕ) where
         passes = sym (f (listed d array))
 
         room : d .examined < bits (zoneCount s - 1)
-        room = omega (arith, turn-sound s index x y from (stateOf next (with e)) (r .sound) passes .counted, with-long e)
+        room = omega (arith, turn-sound s index x y from (stateOf next (with e)) (r .rest .sound) passes .counted, with-long e)
 
         more : listed next (set array (d .examined) e) ≡ with e
         more = with-listed e next c room
@@ -149,7 +130,7 @@ module _ (s : Sheet) (index : List ℕ) (x y : ℕ) where
         lands = sym (f (listed d array))
 
         room : d .examined < bits (zoneCount s - 1)
-        room = omega (arith, answered-counts s index x y from (stateOf last (with e)) (onEdge s x y e) (r .sound) lands .0, with-long e)
+        room = omega (arith, answered-counts s index x y from (stateOf last (with e)) (onEdge s x y e) (r .rest .sound) lands .0, with-long e)
     step-leads Damaged (f, c) = ends damaged _ array (λ fuel. refl) (sym (f (listed d array))) refl refl
 
     -- at i = j the zone at that place is found, or a word at fault

@@ -20,7 +20,7 @@ use Rattle.subdivision.specs.Lines.{sideAt}
 use Rattle.subdivision.specs.Descent.{LookUps, Descent, Turn, onward, answered, damaged, breaks, start, startsSound, placesSound, probeChain, toChain, past, examined, examine, arrived, turn, turns, descent, indexLookUps, indexDescent}
 use Rattle.subdivision.specs.Damage.{Reached, begun, turned, Opens, Finds, FaultAt, startAtFault, entryAtFault, runOut, placeAtFault, passing, zoneAtFault, ComesToFault}
 use Rattle.theory.proofs.Decide.{means, held, denies, fails}
-use Rattle.theory.proofs.Descents.{Sound, turnsLeft, start-sound, start-left, left-some, turn-sound, turn-falls}
+use Rattle.theory.proofs.Descents.{Sound, turnsLeft, left-some, turn-sound, turn-falls, leads, Rest, start-rest, rest-onward, rest-ends}
 use Rattle.theory.proofs.ProbeFaults.{Misses, Gives, chain-gives, chain-misses, chain-finds}
 use Rattle.theory.proofs.Turns.{sided}
 
@@ -155,45 +155,16 @@ module _ (s : Sheet) (index : List ℕ) (x y : ℕ) where
 
   -- ---- the descent
 
-  -- what a turn leads to within so many more
-  abbrev leads : ℕ → Turn → Turn
-  leads fuel t = elim t [ onward next ↦ turns s w x y fuel next | answered a last ↦ answered a last | damaged ↦ damaged ]
-
-  -- the rest of the descent is that from d, with as many turns as are left
-  record Rest (d : Descent) : Type 0 where
-    sound : Sound s d
-    fuel : ℕ
-    enough : turnsLeft d ≤ fuel
-    same : indexDescent s index x y ≡ turns s w x y fuel d
-
-  start-rest : 1 ≤ zoneCount s → Rest (start s)
-  unfolding indexDescent descent
-  start-rest n = record { sound = start-sound s n; fuel = 2 * zoneCount s; enough = start-left s n; same = refl }
-
-  -- the turn from d begins the rest of the descent
-  next-turn : (d : Descent) → Rest d → (fuel : ℕ) × (turnsLeft d ≤ suc fuel) × (indexDescent s index x y ≡ leads fuel (turn s w x y d))
-  next-turn d r = go (r .fuel) (r .enough) (r .same)
-    where
-      go : (fuel : ℕ) → turnsLeft d ≤ fuel → indexDescent s index x y ≡ turns s w x y fuel d
-          → (fuel : ℕ) × (turnsLeft d ≤ suc fuel) × (indexDescent s index x y ≡ leads fuel (turn s w x y d))
-      go zero l e = absurd (omega (arith, left-some s d (r .sound)))
-      go (suc fuel) l e = (fuel, l, e)
-
-  reached-rest : 1 ≤ zoneCount s → (d : Descent) → Reached s index x y d → Rest d
-  reached-rest n d begun = start-rest n
-  reached-rest n d (turned before next r e) = go (reached-rest n before r)
-    where
-      go : Rest before → Rest next
-      go rest =
-          let t = next-turn before rest in
-          record { sound = turn-sound s index x y before next (rest .sound) e; fuel = t .0; enough = omega (arith, t .1, turn-falls s index x y before next (rest .sound) e); same = t .2 ∙ ap (leads (t .0)) e }
+  reached-rest : 1 ≤ zoneCount s → (d : Descent) → Reached s index x y d → Rest s index x y d
+  reached-rest n d begun = start-rest s index x y n
+  reached-rest n d (turned before next r e) = rest-onward s index x y before next (reached-rest n before r) e
 
   damaged-comes : (fuel : ℕ) (d : Descent) → Reached s index x y d → Sound s d → turnsLeft d ≤ fuel → turns s w x y fuel d ≡ damaged
       → ComesToFault s index x y
   damaged-comes zero d r h l e = absurd (omega (arith, left-some s d h))
   damaged-comes (suc fuel) d r h l e = go (turn s w x y d) refl e (damaged-comes fuel)
     where
-      go : (t : Turn) → turn s w x y d ≡ t → leads fuel t ≡ damaged
+      go : (t : Turn) → turn s w x y d ≡ t → leads s index x y fuel t ≡ damaged
           → ((next : Descent) → Reached s index x y next → Sound s next → turnsLeft next ≤ fuel → turns s w x y fuel next ≡ damaged → ComesToFault s index x y)
           → ComesToFault s index x y
       go (onward next) p m rest =
@@ -207,11 +178,11 @@ module _ (s : Sheet) (index : List ℕ) (x y : ℕ) where
     where
       comes : indexDescent s index x y ≡ damaged → ComesToFault s index x y
       comes e =
-          let r = start-rest n in
+          let r = start-rest s index x y n in
           damaged-comes (r .fuel) (start s) begun (r .sound) (r .enough) (sym (r .same) ∙ e)
 
       ended : ComesToFault s index x y → indexDescent s index x y ≡ damaged
-      ended (d, r, f) = let t = next-turn d (reached-rest n d r) in t .2 ∙ ap (leads (t .0)) (fault-damages d f)
+      ended (d, r, f) = rest-ends s index x y d damaged (λ fuel. refl) (reached-rest n d r) (fault-damages d f)
 
   -- a turn that ends a descent: with an answer, or damaged
   abbrev Ended : Turn → Type 0
@@ -221,7 +192,7 @@ module _ (s : Sheet) (index : List ℕ) (x y : ℕ) where
   turns-end zero d = inr refl
   turns-end (suc fuel) d = go (turn s w x y d) (turns-end fuel)
     where
-      go : (t : Turn) → ((next : Descent) → Ended (turns s w x y fuel next)) → Ended (leads fuel t)
+      go : (t : Turn) → ((next : Descent) → Ended (turns s w x y fuel next)) → Ended (leads s index x y fuel t)
       go (onward next) rest = rest next
       go (answered a last) rest = inl (a, last, refl)
       go damaged rest = inr refl

@@ -1,5 +1,5 @@
 -- A descent over any words of an index: it stays in its blocks, its counts are bounded, and it ends.
-use mathlib.Core.Path.{_≡_, refl, sym, subst}
+use mathlib.Core.Path.{_≡_, refl, sym, ap, _∙_, subst}
 use mathlib.Core.Bool.{true, false}
 use mathlib.Core.List.{List}
 use mathlib.Core.Logic.{_⊎_, inl, inr, ⊎-elim, by-cases}
@@ -200,6 +200,40 @@ module _ (s : Sheet) (index : List ℕ) (x y : ℕ) where
       go (onward next) e rest = rest next (turn-sound d next h e) (omega (arith, turn-falls d next h e))
       go (answered a last) e rest = refl
       go damaged e rest = refl
+
+  -- what a turn leads to within so many more
+  abbrev pub leads : ℕ → Turn → Turn
+  leads fuel t = elim t [ onward next ↦ turns s (indexLookUps s index) x y fuel next | answered a last ↦ answered a last | damaged ↦ damaged ]
+
+  -- the rest of the descent is that from d, with as many turns as are left
+  pub record Rest (d : Descent) : Type 0 where
+    pub sound : Sound s d
+    pub fuel : ℕ
+    pub enough : turnsLeft d ≤ fuel
+    pub same : indexDescent s index x y ≡ turns s (indexLookUps s index) x y fuel d
+
+  pub start-rest : 1 ≤ zoneCount s → Rest (start s)
+  unfolding indexDescent descent
+  start-rest n = record { sound = start-sound s n; fuel = 2 * zoneCount s; enough = start-left s n; same = refl }
+
+  -- the turn from d begins the rest of the descent
+  next-turn : (d : Descent) → Rest d → (fuel : ℕ) × (turnsLeft d ≤ suc fuel) × (indexDescent s index x y ≡ leads fuel (turn s w x y d))
+  next-turn d r = go (r .fuel) (r .enough) (r .same)
+    where
+      go : (fuel : ℕ) → turnsLeft d ≤ fuel → indexDescent s index x y ≡ turns s w x y fuel d
+          → (fuel : ℕ) × (turnsLeft d ≤ suc fuel) × (indexDescent s index x y ≡ leads fuel (turn s w x y d))
+      go zero l e = absurd (omega (arith, left-some s d (r .sound)))
+      go (suc fuel) l e = (fuel, l, e)
+
+  -- past a turn that goes onward the rest is that from the next state
+  pub rest-onward : (d next : Descent) → Rest d → turn s (indexLookUps s index) x y d ≡ onward next → Rest next
+  rest-onward d next r e =
+      let t = next-turn d r in
+      record { sound = turn-sound d next (r .sound) e; fuel = t .0; enough = omega (arith, t .1, turn-falls d next (r .sound) e); same = t .2 ∙ ap (leads (t .0)) e }
+
+  -- a turn that does not go onward ends the descent
+  pub rest-ends : (d : Descent) (end : Turn) → ((fuel : ℕ) → leads fuel end ≡ end) → Rest d → turn s (indexLookUps s index) x y d ≡ end → indexDescent s index x y ≡ end
+  rest-ends d end stops r e = let t = next-turn d r in t .2 ∙ (ap (leads (t .0)) e ∙ stops (t .0))
 
   -- a descent that ends with an answer has counted at most bits(n-1) edges, and at most bits(n-1) x bits(m) probes
   pub descent-counts : 1 ≤ zoneCount s → (a : Answer) (last : Descent) → indexDescent s index x y ≡ answered a last
