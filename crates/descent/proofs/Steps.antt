@@ -1,5 +1,5 @@
 -- Each way of a step of the quick search, against the turn of the defined descent over the words of an index.
-use mathlib.Core.Path.{_≡_, refl, sym, _∙_}
+use mathlib.Core.Path.{_≡_, refl, sym, subst, _∙_}
 use mathlib.Core.Bool.{true, false}
 use mathlib.Core.List.{List}
 use mathlib.Core.Logic.{⊎-elim}
@@ -16,7 +16,10 @@ use Rattle.subdivision.specs.Sheet.{Sheet, sheetOf, aboveOf, belowOf, segment}
 use Rattle.subdivision.specs.Lines.{sideAt}
 use Rattle.subdivision.specs.Descent.{LookUps, Turn, startsSound, placesSound, probe, past, stepped, examined, examine, turn, indexLookUps}
 use Rattle.subdivision.specs.Descent as defined
+use Rattle.subdivision.specs.Damage.{Finds}
 use Rattle.theory.proofs.Dyadic.{le-or-lt}
+use Rattle.theory.proofs.ProbeFaults.{Gives, chain-gives}
+use Rattle.tables.specs.Known.{EndsKnown}
 use Rattle.descent.specs.declared.Descent.{Descent}
 use Rattle.descent.specs.declared.Step.{Step}
 use Rattle.descent.specs.declared.Step.the-variants.{Son, Past, On, Damaged}
@@ -91,6 +94,15 @@ module _ (s : Sheet) (index : List ℕ) (x y : ℕ) where
       → Follows (unmargined s) x y d (λ t. examined s w x y t e q) step → Follows s x y d (examine s w x y) step
   chain-covered d e q step keep from to made covered f =
       (λ trail. rw (keep, sym (rw (from, to) at made) ∙ covered, examine) (unmargined-turn s x y trail step ∙ f .0 trail), f .1)
+
+  -- an edge that the probes find is there, and so are its vertices
+  pub covered-known : (d : Descent) {e q from to : ℕ} {p : Probed} → from ≡ w .start (d .k) → to ≡ w .start (d .k + 1) → p ≡ probe s w x to from to (d .probes)
+      → p ≡ Covered e q → EndsKnown (s .vertices) (s .edges) e
+  covered-known d {e} {q} from to made covered =
+      go (subst (Gives s index x y (d .k)) (sym (rw (from, to) at made) ∙ covered) (chain-gives s index x y (d .k) (d .probes)))
+    where
+      go : Finds s index x y (d .k) e → EndsKnown (s .vertices) (s .edges) e
+      go (lo, hi, left, (some, (same, (sound, cover)))) = (sound .0, sound .1 .0 .0)
 
   -- ---- a turn while i < j
 

@@ -13,8 +13,7 @@ use subdivision::Found;
 use subdivision::MAX_EXAMINED;
 use subdivision::Probed;
 use subdivision::Side;
-use tables::edge_above;
-use tables::edge_below;
+use tables::known_segment;
 use tables::segment;
 ghost use mathlib.Core.Path.{_≡_};
 ghost use mathlib.Core.List.{List};
@@ -27,6 +26,7 @@ ghost use Rattle.subdivision.specs.Formula.{both, isEqual, holds};
 ghost use Rattle.subdivision.specs.Dyadic.{bits, topBit, lowBit};
 ghost use Rattle.subdivision.specs.Sheet.{sheetOf};
 ghost use Rattle.subdivision.specs.Descent.{examined, examine, turn, indexLookUps, indexDescent};
+ghost use Rattle.tables.specs.Known.{EndsKnown};
 ghost use Rattle.probes.specs.Margins.{sheetAt};
 ghost use Rattle.descent.specs.Steps.{stateOf, passed, turnOf, Counted, answerOn, arrivedFound, foundBy, trailOf};
 
@@ -118,8 +118,8 @@ impl Descent {
         Step::Past(e, self.at_edge(i, j, probes))
     }
 
-    // Examines edge e of chain k, with the probes made to find it: its places are judged, then its
-    // side gives the next i or j.
+    // Examines edge e of chain k, which is there with its vertices, with the probes made to find it: its
+    // places are judged, then its side gives the next i or j.
     fn examine_edge(
         self,
         vertices: &[i32],
@@ -131,16 +131,17 @@ impl Descent {
         x: u32,
         y: u32,
     ) -> Step
-        requires { ⌜ self .examined < maxZones ⌝ }
+        requires { ⌜ (self .examined < maxZones) × EndsKnown (now vertices) (now edges) e ⌝ }
         ensures turned { λ r. ⌜ ((trail : List ℕ) → turnOf (sheetOf (pos 0) (pos 0) (now (vertices .entry)) (now (edges .entry)) zones) x y trail r ≡ examined (sheetOf (pos 0) (pos 0) (now (vertices .entry)) (now (edges .entry)) zones) (indexLookUps (sheetOf (pos 0) (pos 0) (now (vertices .entry)) (now (edges .entry)) zones) (now (index .entry))) x y (stateOf self trail) e probes) ⌝ }
         ensures counted { λ r. ⌜ Counted self r ⌝ }
     {
-        let below = place_of(index, zones, edge_below(edges, e));
-        let above = place_of(index, zones, edge_above(edges, e));
+        let at = 4 * (e as usize);
+        let below = place_of(index, zones, edges[at + 3]);
+        let above = place_of(index, zones, edges[at + 2]);
         if !places_sound(zones, below, self.k, above) {
             return Step::Damaged;
         }
-        match side(segment(vertices, edges, e), x, y) {
+        match side(known_segment(vertices, edges, e), x, y) {
             Side::On => Step::On(e, self.at_edge(self.i, self.j, probes)),
             Side::Above => self.past_edge(e, above, self.j, probes),
             Side::Below => self.past_edge(e, self.i, below, probes),

@@ -1,7 +1,8 @@
 use subdivision::Segment;
 use subdivision::Side;
 ghost use mathlib.Core.Path.{_≡_};
-ghost use Prim.Native.Nat.{_*_, _-_, _<_, min, max};
+ghost use Prim.Native.Nat.{_*_, _-_, _<_, min};
+ghost use lib.Dec.{ltb};
 ghost use Rattle.subdivision.specs.Formula.{holds};
 ghost use Rattle.subdivision.specs.Lines.{covers, pointPart, edgePart, sideAt, overlapWest, overlapEast, conflict};
 ghost use Rattle.geometry.specs.Crossing.{orderOn, turned, broken, isUp, lowerBeside};
@@ -68,16 +69,6 @@ pub fn side(g: Segment, x: u32, y: u32) -> Side
     Side::On
 }
 
-// The larger of two numbers.
-fn larger(a: u32, b: u32) -> u32
-    ensures { λ r. ⌜ r ≡ max a b ⌝ }
-{
-    if a < b {
-        return b;
-    }
-    a
-}
-
 // The smaller of two numbers.
 pub fn smaller(a: u32, b: u32) -> u32
     ensures { λ r. ⌜ r ≡ min a b ⌝ }
@@ -86,6 +77,15 @@ pub fn smaller(a: u32, b: u32) -> u32
         return b;
     }
     a
+}
+
+// Whether two edges overlap: both run west to east, and each begins before the other ends. Nothing branches on the way.
+fn overlap(g: Segment, h: Segment) -> bool
+    ensures { λ r. ⌜ r ≡ ltb (overlapWest g h) (overlapEast g h) ⌝ }
+{
+    let run = (g.xw < g.xe) & (h.xw < h.xe);
+    let meet = (g.xw < h.xe) & (h.xw < g.xe);
+    run & meet
 }
 
 // The side, seen from the other edge.
@@ -148,9 +148,7 @@ fn broken(west: Side, east: Side, fork: bool, meet: bool) -> bool
 pub fn conflict(g: Segment, h: Segment) -> bool
     ensures { λ r. ⌜ r ≡ holds (conflict g h) ⌝ }
 {
-    let a = larger(g.xw, h.xw);
-    let b = smaller(g.xe, h.xe);
-    if b <= a {
+    if !overlap(g, h) {
         return false;
     }
     let west = order_west(g, h);
@@ -163,9 +161,7 @@ pub fn conflict(g: Segment, h: Segment) -> bool
 pub fn lower_beside(eastern: bool, g: Segment, h: Segment) -> bool
     ensures { λ r. ⌜ r ≡ holds (lowerBeside eastern g h) ⌝ }
 {
-    let from = larger(g.xw, h.xw);
-    let to = smaller(g.xe, h.xe);
-    if to <= from {
+    if !overlap(g, h) {
         return false;
     }
     if eastern {

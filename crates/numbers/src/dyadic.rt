@@ -18,10 +18,10 @@ pub fn bit_length(k: u32) -> u32
 pub fn top_bit(k: u32) -> u32
     ensures { λ r. ⌜ r ≡ topBit k ⌝ }
 {
-    if k <= 1 {
+    if k == 0 {
         return k;
     }
-    2 * top_bit(k / 2)
+    1 << (bit_length(k) - 1)
 }
 
 // For i < j, the number of the chain of an edge between the places i and j: recursion on halved

@@ -5,7 +5,7 @@ use records::vertices::point_inside;
 use subdivision::Look;
 use subdivision::Probed;
 use subdivision::Segment;
-use tables::segment;
+use tables::known_segment;
 ghost use mathlib.Core.Path.{_≡_};
 ghost use Prim.Native.Nat.{_≤_};
 ghost use Rattle.subdivision.specs.Limits.{maxEdges};
@@ -37,7 +37,7 @@ fn look(west: u32, east: u32, vertices: &[i32], edges: &[u32], zones: u32, e: u3
     if !edge_names(vertices, edges, zones, e) {
         return Look::Faulty;
     }
-    let g = segment(vertices, edges, e);
+    let g = known_segment(vertices, edges, e);
     if !runs_inside(west, east, g) {
         return Look::Faulty;
     }

@@ -6,7 +6,9 @@ use tables::vertex_x;
 ghost use mathlib.Core.Path.{_≡_};
 ghost use mathlib.Core.Bool.{not};
 ghost use mathlib.Core.List.{[]};
+ghost use Prim.Native.Nat.{_<_, _≤_, _/_};
 ghost use lib.IntN.{pos};
+ghost use lib.ListN.{length};
 ghost use Rattle.subdivision.specs.Formula.{holds};
 ghost use Rattle.subdivision.specs.Lowest.{lowest};
 ghost use Rattle.subdivision.specs.Sheet.{sheetOf};
@@ -14,6 +16,7 @@ ghost use Rattle.subdivision.specs.Rules.{edgeNames, edgeRuns, zonesDiffer};
 
 // Refusal 6: the lowest of the first `count` edges that names what isn't there; `count` where none does.
 pub fn first_misnamed(vertices: &[i32], edges: &[u32], zones: u32, count: u32) -> u32
+    requires { ⌜ count ≤ length (now edges) / 4 ⌝ }
     ensures { λ r. ⌜ r ≡ lowest (λ e. not (holds (edgeNames (sheetOf (pos 0) (pos 0) (now (vertices .entry)) (now (edges .entry)) zones) e))) count ⌝ }
 {
     let mut e: u32 = 0;
@@ -26,21 +29,27 @@ pub fn first_misnamed(vertices: &[i32], edges: &[u32], zones: u32, count: u32) -
     e
 }
 
-// Whether edge e names vertices and zones that exist.
+// Whether edge e, which is there, names vertices and zones that exist.
 pub fn edge_names(vertices: &[i32], edges: &[u32], zones: u32, e: u32) -> bool
+    requires { ⌜ e < length (now edges) / 4 ⌝ }
     ensures { λ r. ⌜ r ≡ holds (edgeNames (sheetOf (pos 0) (pos 0) (now (vertices .entry)) (now (edges .entry)) zones) e) ⌝ }
 {
+    let at = 4 * (e as usize);
     let n = vertices.len() / 2;
-    if n <= edge_west(edges, e) as usize {
+    let west = edges[at];
+    if n <= west as usize {
         return false;
     }
-    if n <= edge_east(edges, e) as usize {
+    let east = edges[at + 1];
+    if n <= east as usize {
         return false;
     }
-    if zones <= edge_above(edges, e) {
+    let above = edges[at + 2];
+    if zones <= above {
         return false;
     }
-    if zones <= edge_below(edges, e) {
+    let below = edges[at + 3];
+    if zones <= below {
         return false;
     }
     true

@@ -2,8 +2,10 @@
 use subdivision::Segment;
 ghost use mathlib.Core.Path.{_≡_};
 ghost use lib.IntN.{pos};
-ghost use lib.ListN.{getD};
+ghost use Prim.Native.Nat.{_<_};
+ghost use lib.ListN.{length, getD};
 ghost use Rattle.subdivision.specs.Sheet.{shifted, vertexX, vertexY, edgeWest, edgeEast, edgeAbove, edgeBelow, segmentOf};
+ghost use Rattle.tables.specs.Known.{EndsKnown};
 
 // A signed coordinate as an unsigned one, order and differences kept.
 pub fn shifted(v: i32) -> u32
@@ -17,10 +19,18 @@ fn coordinate(vertices: &[i32], at: usize) -> u32
     ensures { λ r. ⌜ r ≡ shifted (getD (now (vertices .entry)) at (pos 0)) ⌝ }
 {
     if at < vertices.len() {
-        let z = vertices[at];
-        return shifted(z);
+        return known_coordinate(vertices, at);
     }
     shifted(0)
+}
+
+// The coordinate at a place of the vertices that is known to be there, shifted.
+fn known_coordinate(vertices: &[i32], at: usize) -> u32
+    requires { ⌜ at < length (now vertices) ⌝ }
+    ensures { λ r. ⌜ r ≡ shifted (getD (now (vertices .entry)) at (pos 0)) ⌝ }
+{
+    let z = vertices[at];
+    shifted(z)
 }
 
 // The word at a place of a table: 0 past its end.
@@ -88,5 +98,25 @@ pub fn segment(vertices: &[i32], edges: &[u32], e: u32) -> Segment
         yw: vertex_y(vertices, west),
         xe: vertex_x(vertices, east),
         ye: vertex_y(vertices, east),
+    }
+}
+
+// Edge e with its ends, where the edge and both of its vertices are known to be there: nothing is tested.
+pub fn known_segment(vertices: &[i32], edges: &[u32], e: u32) -> Segment
+    requires { ⌜ EndsKnown (now vertices) (now edges) e ⌝ }
+    ensures { λ r. ⌜ r ≡ segmentOf (now (vertices .entry)) (now (edges .entry)) e ⌝ }
+{
+    let at = 4 * (e as usize);
+    let west = edges[at];
+    let east = edges[at + 1];
+    let w = 2 * (west as usize);
+    let v = 2 * (east as usize);
+    Segment {
+        west: west,
+        east: east,
+        xw: known_coordinate(vertices, w),
+        yw: known_coordinate(vertices, w + 1),
+        xe: known_coordinate(vertices, v),
+        ye: known_coordinate(vertices, v + 1),
     }
 }

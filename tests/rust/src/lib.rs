@@ -1,5 +1,7 @@
 //! The proved functions as safe Rust, and a generator of numbers with a printed seed.
 
+pub mod paper;
+pub mod plain;
 pub mod sheets;
 
 use sheets::Sheet;

@@ -44,14 +44,14 @@ pairs-holds c =
     let a = c .before .args in
     search-starts (faulty (a .vertices .now) (a .edges .now)) (a .count)
 
-segment-requires : tie.Need-segment-requires Inv-loop μ-loop Inv-pairs μ-pairs
-segment-requires c κs = search needs
+known-segment-requires : tie.Need-known-segment-requires Inv-loop μ-loop Inv-pairs μ-pairs
+known-segment-requires c κs = c .before .before .before .pre (c .before .pairs .e) (omega arith)
 
 loop-holds : tie.Need-loop-holds Inv-loop μ-loop Inv-pairs μ-pairs
 loop-holds c = (omega arith, λ k h. absurd (not-suc-le-zero h))
 
-segment-requires-2 : tie.Need-segment-requires-2 Inv-loop μ-loop Inv-pairs μ-pairs
-segment-requires-2 c κs = search needs
+known-segment-requires-2 : tie.Need-known-segment-requires-2 Inv-loop μ-loop Inv-pairs μ-pairs
+known-segment-requires-2 c κs = c .before .before .before .before .before .before .pre (c .before .loop .f) (omega arith)
 
 conflict-requires : tie.Need-conflict-requires Inv-loop μ-loop Inv-pairs μ-pairs
 conflict-requires c κs = search needs
@@ -68,7 +68,7 @@ module _ (c : tie.After-conflict Inv-loop μ-loop Inv-pairs μ-pairs) where
   pair = conflict (segment (tables vertices edges) (c .before .before .before .loop .f)) (segment (tables vertices edges) (c .before .before .before .before .before .before .pairs .e))
 
   said : c .conflict .result ≡ holds pair
-  said = c .conflict .ensures ∙ (λ i. holds (conflict (c .before .segment2 .ensures i) (c .before .before .before .before .segment .ensures i)))
+  said = c .conflict .ensures ∙ (λ i. holds (conflict (c .before .known-segment2 .ensures i) (c .before .before .before .before .known-segment .ensures i)))
 
 add-f : tie.Need-add-f Inv-loop μ-loop Inv-pairs μ-pairs
 add-f c = search needs
@@ -118,9 +118,9 @@ first-conflict-spec =
     Inv-pairs
     μ-pairs
     pairs-holds
-    segment-requires
+    known-segment-requires
     loop-holds
-    segment-requires-2
+    known-segment-requires-2
     conflict-requires
     add-f
     loop-less

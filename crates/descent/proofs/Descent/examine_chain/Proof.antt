@@ -10,7 +10,7 @@ use Rattle.subdivision.specs.Descent.{LookUps, startsSound, indexLookUps}
 use Rattle.theory.proofs.Decide.{means}
 use Rattle.probes.specs.Margins.{sheetAt}
 use Rattle.probes.specs.Judged.{startsKept}
-use Rattle.descent.proofs.Steps.{chain-damaged, chain-missing, chain-covered}
+use Rattle.descent.proofs.Steps.{chain-damaged, chain-missing, chain-covered, covered-known}
 use Rattle.descent.proofs.Descent.examine_chain.Statement.{statement}
 use Rattle.descent.proofs.Descent.examine_chain.Tie as tie
 
@@ -71,7 +71,11 @@ enum-known-e : tie.Need-enum-known-e
 enum-known-e c = search needs
 
 examine-edge-requires : tie.Need-examine-edge-requires
-examine-edge-requires c κs = search needs
+examine-edge-requires c κs =
+    let p = c .before .before .before in
+    let j = p .before .before in
+    let a = start j .args in
+    (start j .pre .1 .0, covered-known (tables (start j)) (a .index .now) (a .x) (a .y) (a .self) (j .before .before .before .start-of .ensures) (j .before .start-of2 .ensures) (p .probe .ensures) (c .before .e .given .1))
 
 returns-2 : tie.Need-returns-2
 returns-2 c =

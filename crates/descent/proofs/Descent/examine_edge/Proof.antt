@@ -31,14 +31,29 @@ sound c = placesSound (tables c) (lookUps c) (c .args .self .k) (c .args .e)
 abbrev pointSide : tie.Start → Side
 pointSide c = sideAt (segment (tables c) (c .args .e)) (c .args .x) (c .args .y)
 
-edge-below-requires : tie.Need-edge-below-requires
-edge-below-requires c κs = search needs
+mul-at : tie.Need-mul-at
+mul-at c = search needs
+
+add-place-of : tie.Need-add-place-of
+add-place-of c = search needs
+
+mul-place-of : tie.Need-mul-place-of
+mul-place-of c = search needs
+
+shared-slice-read-place-of : tie.Need-shared-slice-read-place-of
+shared-slice-read-place-of c = search needs
 
 place-of-requires : tie.Need-place-of-requires
 place-of-requires c κs = search needs
 
-edge-above-requires : tie.Need-edge-above-requires
-edge-above-requires c κs = search needs
+add-place-of-2 : tie.Need-add-place-of-2
+add-place-of-2 c = search needs
+
+mul-place-of-2 : tie.Need-mul-place-of-2
+mul-place-of-2 c = search needs
+
+shared-slice-read-place-of-2 : tie.Need-shared-slice-read-place-of-2
+shared-slice-read-place-of-2 c = search needs
 
 place-of-requires-2 : tie.Need-place-of-requires-2
 place-of-requires-2 c κs = search needs
@@ -52,10 +67,10 @@ start c = c .before .before .before .before .before .before .before
 
 -- the places are those of the edge's zones
 below-read : (c : tie.After-places-sound) → c .before .before .before .place-of .result ≡ lookUps (start c) .place (belowOf (tables (start c)) (start c .args .e))
-below-read c = c .before .before .before .place-of .ensures ∙ ap (lookUps (start c) .place) (c .before .before .before .before .edge-below .ensures)
+below-read c = c .before .before .before .place-of .ensures
 
 above-read : (c : tie.After-places-sound) → c .before .place-of2 .result ≡ lookUps (start c) .place (aboveOf (tables (start c)) (start c .args .e))
-above-read c = c .before .place-of2 .ensures ∙ ap (lookUps (start c) .place) (c .before .before .edge-above .ensures)
+above-read c = c .before .place-of2 .ensures
 
 -- the test is of the places as the index has them
 judged : (c : tie.After-places-sound) → c .places-sound .result ≡ holds (sound (start c))
@@ -67,8 +82,8 @@ returns c =
     let a = start j .args in
     edge-damaged (tables (start j)) (a .index .now) (a .x) (a .y) (a .self) (a .e) (a .probes) (sym (judged j) ∙ not-true (j .places-sound .result) (c .if1 .taken))
 
-segment-requires : tie.Need-segment-requires
-segment-requires c κs = search needs
+known-segment-requires : tie.Need-known-segment-requires
+known-segment-requires c κs = search needs
 
 side-requires : tie.Need-side-requires
 side-requires c κs = search needs
@@ -99,7 +114,7 @@ kept c = sym (judged (c .before)) ∙ not-false (c .before .places-sound .result
 sided : (c : tie.After-side) → c .side .result ≡ pointSide (start (c .before .before .before))
 sided c =
     let a = start (c .before .before .before) .args in
-    c .side .ensures ∙ ap (λ (g : Segment). sideAt g (a .x) (a .y)) (c .before .segment .ensures)
+    c .side .ensures ∙ ap (λ (g : Segment). sideAt g (a .x) (a .y)) (c .before .known-segment .ensures)
 
 returns-2 : tie.Need-returns-2
 returns-2 c =
@@ -126,13 +141,18 @@ pub examine-edge-spec : {M : Type 1} → statement M
 examine-edge-spec =
     tie.close
     (tie.spec
-    edge-below-requires
+    mul-at
+    add-place-of
+    mul-place-of
+    shared-slice-read-place-of
     place-of-requires
-    edge-above-requires
+    add-place-of-2
+    mul-place-of-2
+    shared-slice-read-place-of-2
     place-of-requires-2
     places-sound-requires
     returns
-    segment-requires
+    known-segment-requires
     side-requires
     enum-told
     at-edge-requires

@@ -37,7 +37,7 @@ returns c =
     sym (look-faulty (a .west) (a .east) (a .vertices .now) (a .edges .now) (a .zones) (a .e) (a .x) (λ m. omega (arith, c .if1 .taken, m .0)))
 
 edge-names-requires : tie.Need-edge-names-requires
-edge-names-requires c κs = search needs
+edge-names-requires c κs = omega arith
 
 returns-2 : tie.Need-returns-2
 returns-2 c =
@@ -46,8 +46,11 @@ returns-2 c =
     let named = c .before .edge-names in
     sym (look-faulty (a .west) (a .east) (a .vertices .now) (a .edges .now) (a .zones) (a .e) (a .x) (λ m. denies (names start) (sym (named .ensures) ∙ not-true (named .result) (c .if2 .taken)) (m .1 .0)))
 
-segment-requires : tie.Need-segment-requires
-segment-requires c κs = search needs
+known-segment-requires : tie.Need-known-segment-requires
+known-segment-requires c κs =
+    let named = c .before .edge-names in
+    let start = c .before .before .before .before in
+    (omega arith, means (names start) (sym (named .ensures) ∙ not-false (named .result) (c .if2 .left)) .0)
 
 runs-inside-requires : tie.Need-runs-inside-requires
 runs-inside-requires c κs = search needs
@@ -56,7 +59,7 @@ runs-inside-requires c κs = search needs
 tested : (c : tie.After-runs-inside) → c .runs-inside .result ≡ holds (runs (c .before .before .before .before .before .before))
 tested c =
     let a = c .before .before .before .before .before .before .args in
-    c .runs-inside .ensures ∙ ap (λ (g : Segment). holds (runsInside (a .west) (a .east) g)) (c .before .segment .ensures)
+    c .runs-inside .ensures ∙ ap (λ (g : Segment). holds (runsInside (a .west) (a .east) g)) (c .before .known-segment .ensures)
 
 returns-3 : tie.Need-returns-3
 returns-3 c =
@@ -77,7 +80,7 @@ returns-4 : tie.Need-returns-4
 returns-4 c =
     let past = c .before .before in
     let a = past .before .before .before .before .before .before .before .args in
-    sym (look-west (a .west) (a .east) (a .vertices .now) (a .edges .now) (a .zones) (a .e) (a .x) (passes past) (omega (arith, c .if4 .taken, ap (λ (g : Segment). g .xw) (past .before .before .segment .ensures))))
+    sym (look-west (a .west) (a .east) (a .vertices .now) (a .edges .now) (a .zones) (a .e) (a .x) (passes past) (omega (arith, c .if4 .taken, ap (λ (g : Segment). g .xw) (past .before .before .known-segment .ensures))))
 
 covers-requires : tie.Need-covers-requires
 covers-requires c κs = search needs
@@ -86,19 +89,19 @@ covers-requires c κs = search needs
 cover : (c : tie.After-covers) → holds (covers (c .before .before .before .before .before .before .before .before .before .before .args .east) (edge (c .before .before .before .before .before .before .before .before .before .before)) (c .before .before .before .before .before .before .before .before .before .before .args .x)) ≡ c .covers .result
 cover c =
     let a = c .before .before .before .before .before .before .before .before .before .before .args in
-    sym (c .covers .ensures ∙ ap (λ (g : Segment). holds (covers (a .east) g (a .x))) (c .before .before .before .before .before .segment .ensures))
+    sym (c .covers .ensures ∙ ap (λ (g : Segment). holds (covers (a .east) g (a .x))) (c .before .before .before .before .before .known-segment .ensures))
 
 returns-5 : tie.Need-returns-5
 returns-5 c =
     let past = c .before .before .before .before in
     let a = past .before .before .before .before .before .before .before .args in
-    sym (look-covering (a .west) (a .east) (a .vertices .now) (a .edges .now) (a .zones) (a .e) (a .x) (passes past) (omega (arith, c .before .before .if4 .left, ap (λ (g : Segment). g .xw) (past .before .before .segment .ensures))) (cover (c .before) ∙ c .if5 .taken))
+    sym (look-covering (a .west) (a .east) (a .vertices .now) (a .edges .now) (a .zones) (a .e) (a .x) (passes past) (omega (arith, c .before .before .if4 .left, ap (λ (g : Segment). g .xw) (past .before .before .known-segment .ensures))) (cover (c .before) ∙ c .if5 .taken))
 
 returns-6 : tie.Need-returns-6
 returns-6 c =
     let past = c .before .before .before .before in
     let a = past .before .before .before .before .before .before .before .args in
-    sym (look-beyond (a .west) (a .east) (a .vertices .now) (a .edges .now) (a .zones) (a .e) (a .x) (passes past) (omega (arith, c .before .before .if4 .left, ap (λ (g : Segment). g .xw) (past .before .before .segment .ensures))) (cover (c .before) ∙ c .if5 .left))
+    sym (look-beyond (a .west) (a .east) (a .vertices .now) (a .edges .now) (a .zones) (a .e) (a .x) (passes past) (omega (arith, c .before .before .if4 .left, ap (λ (g : Segment). g .xw) (past .before .before .known-segment .ensures))) (cover (c .before) ∙ c .if5 .left))
 
 pub look-spec : {M : Type 1} → statement M
 look-spec =
@@ -107,7 +110,7 @@ look-spec =
     returns
     edge-names-requires
     returns-2
-    segment-requires
+    known-segment-requires
     runs-inside-requires
     returns-3
     returns-4

@@ -67,7 +67,7 @@ passed-9 c =
     none-found 9 (vertexCount s) (vertexRegular s) (after (c .before .before .before) 1) (c .before .first-irregular .result) (irregular (c .before)) (omega arith)
 
 first-conflict-requires : tie.Need-first-conflict-requires
-first-conflict-requires c κs = search needs
+first-conflict-requires c κs = λ e h. let names = records (c .before .before .before) .1 .0 e (omega arith) in (omega arith, names .0)
 
 returns-2 : tie.Need-returns-2
 returns-2 c =

@@ -71,7 +71,7 @@ passed-5 c =
     ∙ none-found 5 (vertexCount s) (vertexNew s) (after (c .before .before .before .before .before) 2) (c .before .first-repeat .result) (c .before .first-repeat .ensures) (omega arith)
 
 first-misnamed-requires : tie.Need-first-misnamed-requires
-first-misnamed-requires c κs = search needs
+first-misnamed-requires c κs = omega arith
 
 returns-3 : tie.Need-returns-3
 returns-3 c =

@@ -1,0 +1,2 @@
+-- Definitions that the contracts of the tables cite.
+pub mod Known
