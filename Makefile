@@ -1,6 +1,6 @@
 # run: a program that opens the worked sheets of document 01, searches for the lens's points and reads them, and its other worked
-# cases. test: every proof, every must-fail edit, every program, the Rust tests. bench: how long opening takes, beside plain Rust,
-# and the search of a point, beside its plain reading.
+# cases. test: every proof, every must-fail edit, every program, the Rust tests, the README's examples. bench: how long the three
+# calls take, beside plain Rust and brute force.
 .PHONY: run test bench
 
 run:
