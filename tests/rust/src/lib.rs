@@ -1,12 +1,16 @@
-//! The proved functions as safe Rust, and a generator of numbers with a printed seed.
+//! The proved functions, as they are exported and as safe Rust, and a generator of numbers with a printed seed.
 
+pub mod damage;
+pub mod drawings;
+pub mod faults;
 pub mod paper;
 pub mod plain;
 pub mod sheets;
 
 use sheets::Sheet;
 
-mod exported {
+/// The functions as they are exported.
+pub mod exported {
     #[link(name = "leaves", kind = "static")]
     extern "C" {
         pub fn tw_bit_length(k: u32) -> u32;
@@ -20,9 +24,18 @@ mod exported {
 
     #[link(name = "exports", kind = "static")]
     extern "C" {
-        pub fn tw_open(west: i32, east: i32, vertices: *const i32, vertices_len: usize, edges: *const u32, edges_len: usize, zones: u32, index: *mut u32, index_len: usize, out: *mut u32);
-        pub fn tw_read(west: i32, east: i32, vertices: *const i32, vertices_len: usize, edges: *const u32, edges_len: usize, zones: u32, x: i32, y: i32, out: *mut u32);
-        pub fn tw_search(west: i32, east: i32, vertices: *const i32, vertices_len: usize, edges: *const u32, edges_len: usize, zones: u32, index: *const u32, index_len: usize, x: i32, y: i32, trail: *mut u32, trail_len: usize, out: *mut u32);
+        pub fn tw_open(
+            west: i32, east: i32, vertices: *const i32, vertices_len: usize, edges: *const u32, edges_len: usize, zones: u32,
+            index: *mut u32, index_len: usize, out: *mut u32,
+        );
+        pub fn tw_read(
+            west: i32, east: i32, vertices: *const i32, vertices_len: usize, edges: *const u32, edges_len: usize, zones: u32,
+            x: i32, y: i32, out: *mut u32,
+        );
+        pub fn tw_search(
+            west: i32, east: i32, vertices: *const i32, vertices_len: usize, edges: *const u32, edges_len: usize, zones: u32,
+            index: *const u32, index_len: usize, x: i32, y: i32, trail: *mut u32, trail_len: usize, out: *mut u32,
+        );
     }
 }
 
@@ -58,7 +71,12 @@ pub fn conflict(vertices: &[i32], edges: &[u32], e: u32, f: u32) -> u32 {
 pub fn open(s: &Sheet, index: &mut [u32]) -> [u32; 2] {
     let mut out = [u32::MAX; 2];
     let (v, e) = (&s.vertices, &s.edges);
-    unsafe { exported::tw_open(s.west, s.east, v.as_ptr(), v.len(), e.as_ptr(), e.len(), s.zones, index.as_mut_ptr(), index.len(), out.as_mut_ptr()) };
+    unsafe {
+        exported::tw_open(
+            s.west, s.east, v.as_ptr(), v.len(), e.as_ptr(), e.len(), s.zones,
+            index.as_mut_ptr(), index.len(), out.as_mut_ptr(),
+        )
+    };
     out
 }
 
@@ -74,7 +92,12 @@ pub fn read(s: &Sheet, x: i32, y: i32) -> [u32; 3] {
 pub fn search(s: &Sheet, index: &[u32], x: i32, y: i32, trail: &mut [u32]) -> [u32; 5] {
     let mut out = [u32::MAX; 5];
     let (v, e) = (&s.vertices, &s.edges);
-    unsafe { exported::tw_search(s.west, s.east, v.as_ptr(), v.len(), e.as_ptr(), e.len(), s.zones, index.as_ptr(), index.len(), x, y, trail.as_mut_ptr(), trail.len(), out.as_mut_ptr()) };
+    unsafe {
+        exported::tw_search(
+            s.west, s.east, v.as_ptr(), v.len(), e.as_ptr(), e.len(), s.zones,
+            index.as_ptr(), index.len(), x, y, trail.as_mut_ptr(), trail.len(), out.as_mut_ptr(),
+        )
+    };
     out
 }
 
@@ -103,6 +126,11 @@ impl Random {
     /// A number from `low` to `high`, both ends allowed.
     pub fn between(&mut self, low: i64, high: i64) -> i64 {
         low + self.below((high - low + 1) as u64) as i64
+    }
+
+    /// One of several things.
+    pub fn one<T: Copy>(&mut self, of: &[T]) -> T {
+        of[self.below(of.len() as u64) as usize]
     }
 }
 

@@ -1,6 +1,8 @@
 //! Sheets as plain tables, generators of accepted ones, and of points on them and near.
+use crate::drawings::{self, columned, shuffled, triangulated, zones, Drawing, Frame};
 use crate::Random;
 
+/// The margins, the number of zones and the two tables, as they are lent.
 #[derive(Clone, Debug, Default)]
 pub struct Sheet {
     pub west: i32,
@@ -15,157 +17,124 @@ impl Sheet {
     pub fn need(&self) -> usize {
         3 * self.zones as usize + self.edges.len() / 4 + 1
     }
-}
 
-/// Edges between numbered points, each with the face above it and the face below it; face 0 is under all, face 1 over all.
-struct Drawing {
-    points: Vec<(i64, i64)>,
-    edges: Vec<[usize; 4]>,
-    faces: usize,
-}
+    /// How many vertices are on the abscissa x.
+    pub fn vertices_on(&self, x: i32) -> usize {
+        self.vertices.chunks_exact(2).filter(|v| v[0] == x).count()
+    }
 
-/// Twice the area of a, b, c: above 0 where c is above the line from a to b, and a is west of b.
-fn area(a: (i64, i64), b: (i64, i64), c: (i64, i64)) -> i64 {
-    (b.0 - a.0) * (c.1 - a.1) - (b.1 - a.1) * (c.0 - a.0)
-}
-
-impl Drawing {
-    /// Joins point p, which edge `first` joins already, to the chain of outermost edges over or under the drawing, as far
-    /// as it sees them: each edge that it sees closes a triangle.
-    fn join(&mut self, chain: &mut Vec<usize>, p: usize, first: usize, over: bool) {
-        let (outer, inner, up) = if over { (2, 3, 1) } else { (3, 2, -1) };
-        let mut last = first;
-        while let Some(&e) = chain.last() {
-            let [u, v, ..] = self.edges[e];
-            if up * area(self.points[u], self.points[v], self.points[p]) <= 0 {
-                break;
-            }
-            let triangle = self.faces;
-            self.faces += 1;
-            (self.edges[e][outer], self.edges[last][outer]) = (triangle, triangle);
-            chain.pop();
-            last = self.edges.len();
-            let mut next = [u, p, 1, 0];
-            next[inner] = triangle;
-            self.edges.push(next);
-        }
-        chain.push(last);
+    /// The pieces into which the edges of an accepted sheet part the strip: one, and one for each edge, less one for each
+    /// vertex between the margins.
+    pub fn pieces(&self) -> usize {
+        let (vertices, edges) = (self.vertices.len() / 2, self.edges.len() / 4);
+        edges + 1 + self.vertices_on(self.west) + self.vertices_on(self.east) - vertices
     }
 }
 
-/// A triangulation of points with different abscissas, made from west to east, with as many more edges than points as asked for.
-fn triangulated(r: &mut Random, surplus: usize) -> Option<Drawing> {
-    let mut d = Drawing { points: vec![], edges: vec![], faces: 2 };
-    let step = 2 * r.between(1, (990_000 / (surplus as i64 + 8)).max(1));
-    let tall = [4, 1_000, 999_998][r.below(3) as usize];
-    let (mut over, mut under) = (vec![], vec![]);
-    let mut x = -999_998;
-    while d.edges.len() < surplus + d.points.len() || d.points.len() < 2 {
-        let p = d.points.len();
-        x += 2 * r.between(1, step / 2);
-        if x > 999_998 {
-            return None;
-        }
-        d.points.push((x, 2 * r.between(-tall / 2, tall / 2)));
-        if p == 0 {
-            continue;
-        }
-        let first = d.edges.len();
-        d.edges.push([p - 1, p, 1, 0]);
-        d.join(&mut over, p, first, true);
-        d.join(&mut under, p, first, false);
+/// The sheet of a drawing with a zone for each face; vertices, edges and zones are numbered at random.
+pub fn numbered(r: &mut Random, d: &Drawing, zone: &[usize]) -> Sheet {
+    let mut names = zone.to_vec();
+    names.sort_unstable();
+    names.dedup();
+    let (vertex, edge, number) = (shuffled(r, d.points.len()), shuffled(r, d.edges.len()), shuffled(r, names.len()));
+    let named = |face: usize| number[names.binary_search(&zone[face]).expect("a name that is there")] as u32;
+    let abscissas = || d.points.iter().map(|p| p.0 as i32);
+    let (west, east) = (abscissas().min().expect("a point"), abscissas().max().expect("a point"));
+    let (vertices, edges) = (vec![0; 2 * d.points.len()], vec![0; 4 * d.edges.len()]);
+    let mut s = Sheet { west, east, zones: names.len() as u32, vertices, edges };
+    for (v, p) in d.points.iter().enumerate() {
+        s.vertices[2 * vertex[v]..][..2].copy_from_slice(&[p.0 as i32, p.1 as i32]);
     }
-    (d.edges.len() == surplus + d.points.len()).then_some(d)
-}
-
-/// Edges cut in two at their middle point, each at most once, until there are as many points as asked for.
-fn cut(r: &mut Random, d: &mut Drawing, points: usize) {
-    let mut whole: Vec<usize> = (0..d.edges.len()).collect();
-    while d.points.len() < points && !whole.is_empty() {
-        let e = whole.swap_remove(r.below(whole.len() as u64) as usize);
-        let [u, v, above, below] = d.edges[e];
-        let (a, b) = (d.points[u], d.points[v]);
-        let middle = d.points.len();
-        d.points.push(((a.0 + b.0) / 2, (a.1 + b.1) / 2));
-        d.edges[e] = [u, middle, above, below];
-        d.edges.push([middle, v, above, below]);
-    }
-}
-
-/// The length of the longest way up to each face from one that has nothing below it.
-fn levels(d: &Drawing) -> Vec<usize> {
-    let mut level = vec![0; d.faces];
-    let mut waits = vec![0; d.faces];
-    d.edges.iter().for_each(|e| waits[e[2]] += 1);
-    let mut ready: Vec<usize> = (0..d.faces).filter(|&f| waits[f] == 0).collect();
-    while let Some(f) = ready.pop() {
-        for e in d.edges.iter().filter(|e| e[3] == f) {
-            level[e[2]] = level[e[2]].max(level[f] + 1);
-            waits[e[2]] -= 1;
-            if waits[e[2]] == 0 {
-                ready.push(e[2]);
-            }
-        }
-    }
-    level
-}
-
-fn shuffled(r: &mut Random, n: usize) -> Vec<usize> {
-    let mut order: Vec<usize> = (0..n).collect();
-    (1..n).rev().for_each(|i| order.swap(i, r.below(i as u64 + 1) as usize));
-    order
-}
-
-/// An accepted sheet with so many vertices (from `surplus` + 3 to twice that), so many more edges than vertices, and at
-/// most so many zones: faces of one level share a zone where there are more faces, so that zones are in several pieces.
-/// All numbering is shuffled.
-pub fn accepted(r: &mut Random, vertices: usize, surplus: usize, zones: usize) -> Sheet {
-    let mut d = loop {
-        if let Some(mut d) = triangulated(r, surplus) {
-            if d.points.len() <= vertices {
-                cut(r, &mut d, vertices);
-                if d.points.len() == vertices {
-                    break d;
-                }
-            }
-        }
-    };
-    let level = levels(&d);
-    let mut by_level = shuffled(r, d.faces);
-    by_level.sort_by_key(|&f| level[f]);
-    let mut spare = d.faces.saturating_sub(zones);
-    let (mut name, mut names) = (vec![0; d.faces], 0);
-    for (i, &f) in by_level.iter().enumerate() {
-        let shares = i > 0 && spare > 0 && level[by_level[i - 1]] == level[f];
-        if shares {
-            spare -= 1;
-        } else {
-            names += 1;
-        }
-        name[f] = names - 1;
-    }
-    let (vertex, edge, zone) = (shuffled(r, d.points.len()), shuffled(r, d.edges.len()), shuffled(r, names));
-    let (first, last) = (d.points.iter().map(|p| p.0).min().unwrap(), d.points.iter().map(|p| p.0).max().unwrap());
-    let mut s = Sheet { west: first as i32, east: last as i32, zones: names as u32, vertices: vec![0; 2 * d.points.len()], edges: vec![0; 4 * d.edges.len()] };
-    d.points.drain(..).enumerate().for_each(|(v, p)| s.vertices[2 * vertex[v]..2 * vertex[v] + 2].copy_from_slice(&[p.0 as i32, p.1 as i32]));
     for (e, &[u, v, above, below]) in d.edges.iter().enumerate() {
-        let words = [vertex[u] as u32, vertex[v] as u32, zone[name[above]] as u32, zone[name[below]] as u32];
-        s.edges[4 * edge[e]..4 * edge[e] + 4].copy_from_slice(&words);
+        s.edges[4 * edge[e]..][..4].copy_from_slice(&[vertex[u] as u32, vertex[v] as u32, named(above), named(below)]);
     }
     s
 }
 
-/// An accepted sheet with fewer than 50 vertices, in half of the cases with zones in several pieces.
-pub fn small(r: &mut Random) -> Sheet {
-    let surplus = r.below(24) as usize;
-    let vertices = surplus + 3 + r.below(surplus as u64 + 1) as usize;
-    let zones = [usize::MAX, 2 + surplus / 2][r.below(2) as usize];
-    accepted(r, vertices, surplus, zones)
+/// A triangulation with edges cut in two: so many points (from about `surplus` to twice `surplus` + 6), and so many more edges.
+fn triangles(r: &mut Random, vertices: usize, surplus: usize) -> Drawing {
+    loop {
+        let Some(mut d) = triangulated(r, surplus) else { continue };
+        d.cut(r, vertices);
+        if d.points.len() == vertices {
+            return d;
+        }
+    }
+}
+
+/// Where a random drawing may lie: one unit wide, at the limits of the range, or small.
+fn frame(r: &mut Random) -> Frame {
+    const FAR: i64 = 1_000_000;
+    let (west, east) = match r.below(8) {
+        0 => r.one(&[(-FAR, 1 - FAR), (FAR - 1, FAR), (0, 1), (-1, 0)]),
+        1 => (-FAR, FAR),
+        2 => r.one(&[(-FAR, 9 - FAR), (FAR - 9, FAR)]),
+        3 => (r.between(-FAR, 0), r.between(1, FAR)),
+        _ => (r.between(-12, 0), r.between(1, 12)),
+    };
+    let (low, high) = match r.below(6) {
+        0 => (-FAR, FAR),
+        1 => r.one(&[(-FAR, 20 - FAR), (FAR - 20, FAR)]),
+        2 => (r.between(-FAR, 0), r.between(1, FAR)),
+        _ => (r.between(-20, 0), r.between(1, 20)),
+    };
+    Frame { west, east, low, high }
+}
+
+/// A random drawing with a zone for each face, often one zone for several, so that the sheet of it is accepted.
+pub fn drawn(r: &mut Random) -> (Drawing, Vec<usize>) {
+    let d = match r.below(8) {
+        0 => {
+            let surplus = r.below(24) as usize;
+            let vertices = surplus + 3 + r.below(surplus as u64 + 1) as usize;
+            triangles(r, vertices, surplus)
+        }
+        _ => {
+            let (frame, wide, tall) = (frame(r), 2 + r.below(10) as usize, 1 + r.below(12));
+            columned(r, frame, wide, tall)
+        }
+    };
+    let tries = r.one(&[0, 30, 100, 300]);
+    let zone = zones(r, &d, 2, tries);
+    (d, zone)
+}
+
+/// A random accepted sheet with some tens of vertices, one time in 64 with none.
+pub fn any(r: &mut Random) -> Sheet {
+    if r.below(64) == 0 {
+        return blank();
+    }
+    let (d, zone) = drawn(r);
+    numbered(r, &d, &zone)
+}
+
+/// A random accepted sheet so small that all its whole points can be gone through.
+pub fn tiny(r: &mut Random) -> Sheet {
+    let frame = Frame { west: r.between(-5, 0), east: r.between(1, 5), low: r.between(-6, -1), high: r.between(1, 6) };
+    let (wide, tall, tries) = (2 + r.below(9) as usize, 1 + r.below(8), r.one(&[0, 40, 200]));
+    let d = columned(r, frame, wide, tall);
+    let zone = zones(r, &d, 2, tries);
+    numbered(r, &d, &zone)
+}
+
+/// An accepted sheet with so many vertices (from about `surplus` to twice `surplus` + 6), so many more edges than vertices, and
+/// at most so many zones, in several pieces where there are more pieces than that.
+pub fn accepted(r: &mut Random, vertices: usize, surplus: usize, zones: usize) -> Sheet {
+    let d = triangles(r, vertices, surplus);
+    let zone = drawings::zones(r, &d, zones, 10_000);
+    numbered(r, &d, &zone)
 }
 
 /// A sheet at every limit: 1,024 vertices, 2,048 edges, 1,024 zones.
 pub fn largest(r: &mut Random) -> Sheet {
     accepted(r, 1024, 1024, 1024)
+}
+
+/// A sheet of so many columns with so many vertices each, some zones in several pieces where that can be.
+pub fn woven(r: &mut Random, wide: usize, tall: usize) -> Sheet {
+    let d = drawings::woven(r, wide, tall);
+    let zone = zones(r, &d, 2, 40);
+    numbered(r, &d, &zone)
 }
 
 /// One vertex on W with an edge to each of 1,023 vertices on E: the largest fan that the limits allow.
@@ -178,52 +147,63 @@ pub fn fan() -> Sheet {
     s
 }
 
-/// Chains of edges from margin to margin, one over the other, with vertices at few abscissas, so that many share one;
-/// zones and vertices are numbered at random.
-pub fn terraces(r: &mut Random, chains: usize) -> Sheet {
-    let (zone, vertex) = (shuffled(r, chains + 1), shuffled(r, 5 * chains));
-    let mut s = Sheet { west: -4, east: 4, zones: chains as u32 + 1, vertices: vec![], edges: vec![] };
-    let mut points = vec![];
-    for c in 0..chains {
-        let mut last = None;
-        for x in [-4i32, -1, 0, 1, 4] {
-            if x.abs() == 4 || r.below(2) == 0 {
-                points.push((x, 10 * c as i64 + r.between(0, 4)));
-                if let Some(west) = last.replace(points.len() - 1) {
-                    s.edges.extend_from_slice(&[west as u32, points.len() as u32 - 1, zone[c + 1] as u32, zone[c] as u32]);
-                }
-            }
-        }
-    }
-    let mut order: Vec<usize> = (0..points.len()).collect();
-    order.sort_by_key(|&v| vertex[v]);
-    order.iter().for_each(|&v| s.vertices.extend_from_slice(&[points[v].0, points[v].1 as i32]));
-    for e in s.edges.chunks_mut(4) {
-        e[..2].iter_mut().for_each(|v| *v = order.iter().position(|&o| o == *v as usize).unwrap() as u32);
-    }
-    s
-}
-
 /// The lens sheet of document 01.
 pub fn lens() -> Sheet {
-    Sheet { west: 0, east: 4, zones: 3, vertices: vec![0, 0, 2, 2, 2, -2, 4, 0], edges: vec![0, 1, 2, 1, 1, 3, 2, 1, 0, 2, 1, 0, 2, 3, 1, 0] }
+    let (vertices, edges) = (vec![0, 0, 2, 2, 2, -2, 4, 0], vec![0, 1, 2, 1, 1, 3, 2, 1, 0, 2, 1, 0, 2, 3, 1, 0]);
+    Sheet { west: 0, east: 4, zones: 3, vertices, edges }
 }
 
-/// A point at or near a vertex, on an edge, at a margin, or anywhere.
-pub fn point(r: &mut Random, s: &Sheet) -> (i64, i64) {
-    let v = 2 * r.below(s.vertices.len() as u64 / 2) as usize;
-    let (x, y) = (s.vertices[v] as i64, s.vertices[v + 1] as i64);
-    let near = |r: &mut Random, c: i64| c + r.between(-1, 1);
-    match r.below(6) {
+/// The sheet that rule 6 excepts: one zone, nothing drawn.
+pub fn blank() -> Sheet {
+    Sheet { west: -7, east: 9, zones: 1, ..Sheet::default() }
+}
+
+/// The greatest number that divides both a and b.
+fn divisor(a: i64, b: i64) -> i64 {
+    if b == 0 { a.abs() } else { divisor(b, a % b) }
+}
+
+/// A whole point of a random edge whose ends exist, between them where there is one.
+fn on_edge(r: &mut Random, s: &Sheet) -> (i64, i64) {
+    let e = 4 * r.below(s.edges.len() as u64 / 4) as usize;
+    let end = |v: u32| (s.vertices[2 * v as usize] as i64, s.vertices[2 * v as usize + 1] as i64);
+    let (a, b) = (end(s.edges[e]), end(s.edges[e + 1]));
+    let parts = divisor(b.0 - a.0, b.1 - a.1).max(1);
+    let step = if parts > 1 { r.between(1, parts - 1) } else { 0 };
+    (a.0 + (b.0 - a.0) / parts * step, a.1 + (b.1 - a.1) / parts * step)
+}
+
+/// A point at or near a vertex, on an edge, at a margin, at the limits of the heights, or anywhere.
+pub fn point(r: &mut Random, s: &Sheet) -> (i32, i32) {
+    let (west, east) = (s.west as i64, s.east as i64);
+    let vertices = s.vertices.chunks_exact(2).len() as u64;
+    let v = if vertices > 0 { 2 * r.below(vertices) as usize } else { 0 };
+    let (x, y) = if vertices > 0 { (s.vertices[v] as i64, s.vertices[v + 1] as i64) } else { (west, 0) };
+    let anywhere = r.between(west.min(east), west.max(east));
+    let (x, y) = match r.below(8) {
         0 => (x, y),
-        1 => (near(r, x), near(r, y)),
-        2 => {
-            let e = 4 * r.below(s.edges.len() as u64 / 4) as usize;
-            let (u, w) = (2 * s.edges[e] as usize, 2 * s.edges[e + 1] as usize);
-            ((s.vertices[u] as i64 + s.vertices[w] as i64) / 2, (s.vertices[u + 1] as i64 + s.vertices[w + 1] as i64) / 2)
-        }
-        3 => ([s.west, s.east][r.below(2) as usize] as i64, near(r, y)),
-        4 => (x, r.between(-1_000_000, 1_000_000)),
-        _ => (r.between(s.west as i64, s.east as i64), r.between(-1_000_000, 1_000_000)),
+        1 | 2 => (x + r.between(-1, 1), y + r.between(-1, 1)),
+        3 if !s.edges.is_empty() => on_edge(r, s),
+        4 => (r.one(&[west, east]), y + r.between(-1, 1)),
+        5 => (x, r.between(-1_000_000, 1_000_000)),
+        6 => (anywhere, y + r.between(-2, 2)),
+        _ => (anywhere, if r.below(3) > 0 { r.one(&[-1_000_000, 1_000_000]) } else { r.between(-1_000_000, 1_000_000) }),
+    };
+    (x.clamp(i32::MIN as i64, i32::MAX as i64) as i32, y.clamp(i32::MIN as i64, i32::MAX as i64) as i32)
+}
+
+/// A random point of an accepted sheet, moved to where the calls answer it.
+pub fn inside(r: &mut Random, s: &Sheet) -> (i32, i32) {
+    let (x, y) = point(r, s);
+    (x.clamp(s.west, s.east), y.clamp(-1_000_000, 1_000_000))
+}
+
+/// A random point off the sheet: beside a margin, or past the heights allowed.
+pub fn outside(r: &mut Random, s: &Sheet) -> (i32, i32) {
+    let (x, y) = point(r, s);
+    match r.below(3) {
+        0 => (r.one(&[s.west.saturating_sub(1), i32::MIN]), y),
+        1 => (r.one(&[s.east.saturating_add(1), i32::MAX]), y),
+        _ => (x, r.one(&[-1_000_001, 1_000_001, i32::MIN, i32::MAX])),
     }
 }

@@ -1,6 +1,7 @@
-//! Opening at the limits, and on accepted sheets with one thing changed.
-use thawweasel_tests::{calls, enough, open, sheets, sheets::Sheet, Random};
+//! Opening at and past the limits of counts, records, margins and coordinates.
+use thawweasel_tests::{open, sheets, sheets::lens, sheets::Sheet, Random};
 
+/// Opens a sheet with so many words lent; only the index may be written, and only where the sheet is opened.
 fn opened(s: &Sheet, words: usize) -> [u32; 2] {
     let lent: Vec<u32> = (0..words as u32).map(|w| w.wrapping_mul(2_654_435_761)).collect();
     let mut index = lent.clone();
@@ -28,6 +29,20 @@ fn counts_at_and_past_the_limits() {
     let mut zone_more = largest.clone();
     zone_more.zones += 1;
     assert_eq!(opened(&zone_more, 9999), [1, 0], "1,025 zones");
+}
+
+#[test]
+fn sheets_of_all_widths_with_as_many_vertices_as_there_may_be() {
+    let mut r = Random::new("widths", 19);
+    for wide in [2, 4, 8, 16, 32, 64, 128, 256, 512, 1024] {
+        let s = sheets::woven(&mut r, wide, 1024 / wide);
+        assert_eq!(opened(&s, s.need() + 3), [0, 0], "{wide} columns");
+        assert_eq!(opened(&s, s.need() - 1), [3, 0], "{wide} columns");
+    }
+}
+
+#[test]
+fn tables_that_are_not_whole_records_and_no_zone() {
     for (vertices, edges) in [(1, 0), (3, 0), (0, 1), (0, 2), (0, 3), (0, 5)] {
         let odd = Sheet { east: 4, zones: 1, vertices: vec![0; vertices], edges: vec![0; edges], ..Sheet::default() };
         assert_eq!(opened(&odd, 9), [1, 0], "{vertices} vertex words, {edges} edge words");
@@ -36,55 +51,30 @@ fn counts_at_and_past_the_limits() {
 }
 
 #[test]
-fn accepted_sheets_open_and_one_changed_word_is_told() {
-    let mut r = Random::new("opening", 12);
-    let mut given = [0usize; 14];
-    for _ in 0..calls(600) {
-        let s = sheets::small(&mut r);
-        let vertices = s.vertices.len() / 2;
-        let mut index = vec![7; s.need() + 2];
-        assert_eq!(open(&s, &mut index), [0, 0], "{s:?}");
-        let again = {
-            let mut other = vec![9; s.need()];
-            assert_eq!(open(&s, &mut other), [0, 0]);
-            other
-        };
-        assert_eq!(index[..s.need()], again[..], "the index depends on what was lent");
-        given[0] += 1;
-        for _ in 0..12 {
-            let mut bad = s.clone();
-            match r.below(8) {
-                0 => bad.west = r.between(-1_000_002, 1_000_002) as i32,
-                1 => {
-                    let at = r.below(bad.vertices.len() as u64) as usize;
-                    bad.vertices[at] = r.between(-1_000_002, 1_000_002) as i32;
-                }
-                2 => {
-                    let (u, v) = (r.below(vertices as u64) as usize, r.below(vertices as u64) as usize);
-                    let point = [bad.vertices[2 * u], bad.vertices[2 * u + 1]];
-                    bad.vertices[2 * v..2 * v + 2].copy_from_slice(&point);
-                }
-                3 => {
-                    let at = r.below(bad.edges.len() as u64) as usize;
-                    bad.edges[at] = r.below(vertices.max(s.zones as usize) as u64 + 1) as u32;
-                }
-                4 => {
-                    let e = 4 * r.below(bad.edges.len() as u64 / 4) as usize;
-                    bad.edges.swap(e + 2, e + 3);
-                }
-                5 => {
-                    let e = 4 * r.below(bad.edges.len() as u64 / 4) as usize;
-                    bad.edges[e + 2] = bad.edges[e + 3];
-                }
-                6 => {
-                    let keep = bad.edges.len() - 4;
-                    bad.edges.truncate(keep);
-                }
-                _ => bad.zones += 1,
-            }
-            let words = bad.need() + r.below(3) as usize - if r.below(12) == 0 { 1 } else { 0 };
-            given[opened(&bad, words)[0] as usize] += 1;
-        }
+fn margins_and_coordinates_at_and_past_the_limits() {
+    let blank = |west: i32, east: i32| opened(&Sheet { west, east, zones: 1, ..Sheet::default() }, 4);
+    assert_eq!(blank(-1_000_000, 1_000_000), [0, 0]);
+    for (west, east) in [(-1_000_001, 0), (0, 1_000_001), (7, 7), (8, 7), (i32::MIN, 0), (0, i32::MAX)] {
+        assert_eq!(blank(west, east), [2, 0], "margins {west} and {east}");
     }
-    enough(&[("opened", given[0]), ("2", given[2]), ("3", given[3]), ("4", given[4]), ("5", given[5]), ("6", given[6]), ("7", given[7]), ("8", given[8]), ("9", given[9]), ("10", given[10]), ("11", given[11]), ("12", given[12])]);
+    let lens_with = |at: usize, c: i32| {
+        let mut s = lens();
+        s.vertices[at] = c;
+        opened(&s, 14)
+    };
+    for (at, end) in [(3, 1_000_000), (5, -1_000_000)] {
+        assert_eq!(lens_with(at, end), [0, 0], "{end} stands");
+        assert_eq!(lens_with(at, end + end.signum()), [4, at as u32 / 2], "one past {end}");
+    }
+    assert_eq!(lens_with(0, -1), [4, 0], "west of W");
+    assert_eq!(lens_with(6, 5), [4, 3], "east of E");
+}
+
+#[test]
+fn nothing_drawn() {
+    assert_eq!(opened(&sheets::blank(), 4), [0, 0]);
+    assert_eq!(opened(&sheets::blank(), 3), [3, 0]);
+    for zones in [2, 1024] {
+        assert_eq!(opened(&Sheet { zones, ..sheets::blank() }, 9999), [12, 0], "{zones} zones");
+    }
 }

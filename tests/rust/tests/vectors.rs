@@ -1,14 +1,17 @@
-//! Every line of the outside vectors, run against the proved opening, plain reading and quick search.
+//! Every line of the outside vectors, run against the proved opening, plain reading and quick search, and against document 01
+//! by brute force.
 use std::{fs, path::Path};
-use thawweasel_tests::{open, read, search, sheets::Sheet};
+use thawweasel_tests::{open, paper, read, search, sheets::Sheet};
 
 /// What every word holds before it is lent.
 const LENT: u32 = 0xA5A5_A5A5;
 
+/// The numbers of a text.
 fn numbers<T: std::str::FromStr>(text: &str) -> Vec<T> {
     text.split_whitespace().map(|w| w.parse().ok().unwrap_or_else(|| panic!("{w} is no number"))).collect()
 }
 
+/// The sheet of a line.
 fn sheet(line: &str) -> Sheet {
     let parts: Vec<&str> = line.split('|').collect();
     let head: Vec<i64> = numbers(parts[0]);
@@ -31,29 +34,27 @@ fn answer(name: &str, text: &str) -> [u32; 3] {
 /// Opens a sheet, and gives the lent words as they are afterwards.
 fn run_open(name: &str, line: &str, s: &Sheet) -> Vec<u32> {
     let (call, answer) = line.split_once("->").expect("an answer");
-    let words = numbers::<usize>(call)[0];
-    let mut index = vec![LENT; words];
-    let said = open(s, &mut index);
-    match answer.split_whitespace().next().unwrap() {
-        "opened" => {
-            assert_eq!(said, [0, 0], "{name}: {line}");
-            assert_eq!(index, numbers::<u32>(&answer.replace("opened", "")), "{name}: {line}");
-        }
-        "refused" => {
-            assert_eq!(said[..], numbers::<u32>(&answer.replace("refused", ""))[..], "{name}: {line}");
-            assert!(index.iter().all(|&w| w == LENT), "{name}: a refusal wrote: {line}");
-        }
-        other => panic!("{name}: unknown answer {other}"),
-    }
-    index
+    let lent = vec![LENT; numbers::<usize>(call)[0]];
+    let expected = match answer.trim().split_once(' ').expect("an answer") {
+        ("opened", words) => ([0, 0], numbers(words)),
+        ("refused", values) => (numbers(values).try_into().expect("a number and an item"), lent.clone()),
+        (other, _) => panic!("{name}: unknown answer {other}"),
+    };
+    let mut index = lent.clone();
+    assert_eq!((open(s, &mut index), index), expected, "{name}: {line}");
+    assert_eq!(paper::open(s, &lent), expected, "by brute force, {name}: {line}");
+    expected.1
 }
 
+/// Reads a point.
 fn run_read(name: &str, line: &str, s: &Sheet) {
     let (call, said) = line.split_once("->").expect("an answer");
-    let point: Vec<i32> = numbers(call);
-    assert_eq!(read(s, point[0], point[1]), answer(name, said), "{name}: {line}");
+    let (point, expected) = (numbers::<i32>(call), answer(name, said));
+    assert_eq!(read(s, point[0], point[1]), expected, "{name}: {line}");
+    assert_eq!(paper::read(s, point[0], point[1]).values(), expected, "by brute force, {name}: {line}");
 }
 
+/// Searches for a point over the lent words.
 fn run_search(name: &str, line: &str, s: &Sheet, index: &[u32]) {
     let (call, said) = line.split_once("->").expect("an answer");
     let call: Vec<i32> = numbers(call);
@@ -61,11 +62,14 @@ fn run_search(name: &str, line: &str, s: &Sheet, index: &[u32]) {
     let (entries, probes) = counted.split_once("probes").expect("the probes");
     let [kind, number, item] = answer(name, said);
     let mut left: Vec<u32> = numbers(entries);
-    let counts = [left.len() as u32, numbers(probes)[0]];
-    left.resize(call[2] as usize, LENT);
-    let mut trail = vec![LENT; call[2] as usize];
-    assert_eq!(search(s, index, call[0], call[1], &mut trail), [kind, number, item, counts[0], counts[1]], "{name}: {line}");
+    let expected = [kind, number, item, left.len() as u32, numbers(probes)[0]];
+    let lent = vec![LENT; call[2] as usize];
+    left.resize(lent.len(), LENT);
+    let mut trail = lent.clone();
+    assert_eq!(search(s, index, call[0], call[1], &mut trail), expected, "{name}: {line}");
     assert_eq!(trail, left, "{name}: {line}");
+    let paper = paper::search(s, index, call[0], call[1], &lent);
+    assert_eq!((paper.out, paper.trail), (expected, left), "by brute force, {name}: {line}");
 }
 
 #[test]
@@ -97,6 +101,7 @@ fn every_sheet_opened_and_every_point_read_and_searched_as_the_vectors_say() {
             }
         }
     }
-    println!("vectors: {sheets} sheets, {opens} openings, {reads} readings, {lent} lent indexes, {searches} searches");
+    println!("vectors: {} lines", sheets + opens + reads + lent + searches);
+    println!("  {sheets} sheets, {opens} openings, {reads} readings, {lent} lent indexes, {searches} searches");
     assert!([sheets, opens, reads, lent, searches].iter().all(|&n| n > 0), "no vector of a kind was run");
 }

@@ -5,7 +5,6 @@ use mathlib.Core.List.{List, []}
 use Prim.Native.Nat.{ℕ}
 use native.Mathlib.Omega.{arith}
 use mir.Facts.{toZ-ofZ}
-use borrow.Author.Needs.{needs}
 use lib.ListN.{drop}
 use Rattle.subdivision.specs.Formula.{holds, Means}
 use Rattle.subdivision.specs.Lowest.{lowest}
