@@ -13,6 +13,8 @@ use subdivision::Found;
 use subdivision::MAX_EXAMINED;
 use subdivision::Probed;
 use subdivision::Side;
+use tables::known_above;
+use tables::known_below;
 use tables::known_segment;
 use tables::segment;
 ghost use mathlib.Core.Path.{_≡_};
@@ -135,9 +137,8 @@ impl Descent {
         ensures turned { λ r. ⌜ ((trail : List ℕ) → turnOf (sheetOf (pos 0) (pos 0) (now (vertices .entry)) (now (edges .entry)) zones) x y trail r ≡ examined (sheetOf (pos 0) (pos 0) (now (vertices .entry)) (now (edges .entry)) zones) (indexLookUps (sheetOf (pos 0) (pos 0) (now (vertices .entry)) (now (edges .entry)) zones) (now (index .entry))) x y (stateOf self trail) e probes) ⌝ }
         ensures counted { λ r. ⌜ Counted self r ⌝ }
     {
-        let at = 4 * (e as usize);
-        let below = place_of(index, zones, edges[at + 3]);
-        let above = place_of(index, zones, edges[at + 2]);
+        let below = place_of(index, zones, known_below(edges, e));
+        let above = place_of(index, zones, known_above(edges, e));
         if !places_sound(zones, below, self.k, above) {
             return Step::Damaged;
         }

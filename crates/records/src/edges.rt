@@ -2,6 +2,10 @@ use tables::edge_above;
 use tables::edge_below;
 use tables::edge_east;
 use tables::edge_west;
+use tables::known_above;
+use tables::known_below;
+use tables::known_east;
+use tables::known_west;
 use tables::vertex_x;
 ghost use mathlib.Core.Path.{_≡_};
 ghost use mathlib.Core.Bool.{not};
@@ -34,22 +38,17 @@ pub fn edge_names(vertices: &[i32], edges: &[u32], zones: u32, e: u32) -> bool
     requires { ⌜ e < length (now edges) / 4 ⌝ }
     ensures { λ r. ⌜ r ≡ holds (edgeNames (sheetOf (pos 0) (pos 0) (now (vertices .entry)) (now (edges .entry)) zones) e) ⌝ }
 {
-    let at = 4 * (e as usize);
     let n = vertices.len() / 2;
-    let west = edges[at];
-    if n <= west as usize {
+    if n <= known_west(edges, e) as usize {
         return false;
     }
-    let east = edges[at + 1];
-    if n <= east as usize {
+    if n <= known_east(edges, e) as usize {
         return false;
     }
-    let above = edges[at + 2];
-    if zones <= above {
+    if zones <= known_above(edges, e) {
         return false;
     }
-    let below = edges[at + 3];
-    if zones <= below {
+    if zones <= known_below(edges, e) {
         return false;
     }
     true

@@ -2,7 +2,7 @@
 use subdivision::Segment;
 ghost use mathlib.Core.Path.{_≡_};
 ghost use lib.IntN.{pos};
-ghost use Prim.Native.Nat.{_<_};
+ghost use Prim.Native.Nat.{_<_, _/_};
 ghost use lib.ListN.{length, getD};
 ghost use Rattle.subdivision.specs.Sheet.{shifted, vertexX, vertexY, edgeWest, edgeEast, edgeAbove, edgeBelow, segmentOf};
 ghost use Rattle.tables.specs.Known.{EndsKnown};
@@ -101,22 +101,67 @@ pub fn segment(vertices: &[i32], edges: &[u32], e: u32) -> Segment
     }
 }
 
+// The western vertex of edge e, which is known to be there.
+pub fn known_west(edges: &[u32], e: u32) -> u32
+    requires { ⌜ e < length (now edges) / 4 ⌝ }
+    ensures { λ r. ⌜ r ≡ edgeWest (now (edges .entry)) e ⌝ }
+{
+    edges[4 * (e as usize)]
+}
+
+// The eastern vertex of edge e, which is known to be there.
+pub fn known_east(edges: &[u32], e: u32) -> u32
+    requires { ⌜ e < length (now edges) / 4 ⌝ }
+    ensures { λ r. ⌜ r ≡ edgeEast (now (edges .entry)) e ⌝ }
+{
+    edges[4 * (e as usize) + 1]
+}
+
+// The zone above edge e, which is known to be there.
+pub fn known_above(edges: &[u32], e: u32) -> u32
+    requires { ⌜ e < length (now edges) / 4 ⌝ }
+    ensures { λ r. ⌜ r ≡ edgeAbove (now (edges .entry)) e ⌝ }
+{
+    edges[4 * (e as usize) + 2]
+}
+
+// The zone below edge e, which is known to be there.
+pub fn known_below(edges: &[u32], e: u32) -> u32
+    requires { ⌜ e < length (now edges) / 4 ⌝ }
+    ensures { λ r. ⌜ r ≡ edgeBelow (now (edges .entry)) e ⌝ }
+{
+    edges[4 * (e as usize) + 3]
+}
+
 // Edge e with its ends, where the edge and both of its vertices are known to be there: nothing is tested.
 pub fn known_segment(vertices: &[i32], edges: &[u32], e: u32) -> Segment
     requires { ⌜ EndsKnown (now vertices) (now edges) e ⌝ }
     ensures { λ r. ⌜ r ≡ segmentOf (now (vertices .entry)) (now (edges .entry)) e ⌝ }
 {
-    let at = 4 * (e as usize);
-    let west = edges[at];
-    let east = edges[at + 1];
-    let w = 2 * (west as usize);
-    let v = 2 * (east as usize);
+    let west = known_west(edges, e);
+    let east = known_east(edges, e);
     Segment {
         west: west,
         east: east,
-        xw: known_coordinate(vertices, w),
-        yw: known_coordinate(vertices, w + 1),
-        xe: known_coordinate(vertices, v),
-        ye: known_coordinate(vertices, v + 1),
+        xw: known_x(vertices, west),
+        yw: known_y(vertices, west),
+        xe: known_x(vertices, east),
+        ye: known_y(vertices, east),
     }
+}
+
+// The x of vertex v, which is known to be there, shifted.
+fn known_x(vertices: &[i32], v: u32) -> u32
+    requires { ⌜ v < length (now vertices) / 2 ⌝ }
+    ensures { λ r. ⌜ r ≡ vertexX (now (vertices .entry)) v ⌝ }
+{
+    known_coordinate(vertices, 2 * (v as usize))
+}
+
+// The y of vertex v, which is known to be there, shifted.
+fn known_y(vertices: &[i32], v: u32) -> u32
+    requires { ⌜ v < length (now vertices) / 2 ⌝ }
+    ensures { λ r. ⌜ r ≡ vertexY (now (vertices .entry)) v ⌝ }
+{
+    known_coordinate(vertices, 2 * (v as usize) + 1)
 }

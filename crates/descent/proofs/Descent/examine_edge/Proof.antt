@@ -31,29 +31,14 @@ sound c = placesSound (tables c) (lookUps c) (c .args .self .k) (c .args .e)
 abbrev pointSide : tie.Start → Side
 pointSide c = sideAt (segment (tables c) (c .args .e)) (c .args .x) (c .args .y)
 
-mul-at : tie.Need-mul-at
-mul-at c = search needs
-
-add-place-of : tie.Need-add-place-of
-add-place-of c = search needs
-
-mul-place-of : tie.Need-mul-place-of
-mul-place-of c = search needs
-
-shared-slice-read-place-of : tie.Need-shared-slice-read-place-of
-shared-slice-read-place-of c = search needs
+known-below-requires : tie.Need-known-below-requires
+known-below-requires c κs = search needs
 
 place-of-requires : tie.Need-place-of-requires
 place-of-requires c κs = search needs
 
-add-place-of-2 : tie.Need-add-place-of-2
-add-place-of-2 c = search needs
-
-mul-place-of-2 : tie.Need-mul-place-of-2
-mul-place-of-2 c = search needs
-
-shared-slice-read-place-of-2 : tie.Need-shared-slice-read-place-of-2
-shared-slice-read-place-of-2 c = search needs
+known-above-requires : tie.Need-known-above-requires
+known-above-requires c κs = search needs
 
 place-of-requires-2 : tie.Need-place-of-requires-2
 place-of-requires-2 c κs = search needs
@@ -67,10 +52,10 @@ start c = c .before .before .before .before .before .before .before
 
 -- the places are those of the edge's zones
 below-read : (c : tie.After-places-sound) → c .before .before .before .place-of .result ≡ lookUps (start c) .place (belowOf (tables (start c)) (start c .args .e))
-below-read c = c .before .before .before .place-of .ensures
+below-read c = c .before .before .before .place-of .ensures ∙ ap (lookUps (start c) .place) (c .before .before .before .before .known-below .ensures)
 
 above-read : (c : tie.After-places-sound) → c .before .place-of2 .result ≡ lookUps (start c) .place (aboveOf (tables (start c)) (start c .args .e))
-above-read c = c .before .place-of2 .ensures
+above-read c = c .before .place-of2 .ensures ∙ ap (lookUps (start c) .place) (c .before .before .known-above .ensures)
 
 -- the test is of the places as the index has them
 judged : (c : tie.After-places-sound) → c .places-sound .result ≡ holds (sound (start c))
@@ -141,14 +126,9 @@ pub examine-edge-spec : {M : Type 1} → statement M
 examine-edge-spec =
     tie.close
     (tie.spec
-    mul-at
-    add-place-of
-    mul-place-of
-    shared-slice-read-place-of
+    known-below-requires
     place-of-requires
-    add-place-of-2
-    mul-place-of-2
-    shared-slice-read-place-of-2
+    known-above-requires
     place-of-requires-2
     places-sound-requires
     returns

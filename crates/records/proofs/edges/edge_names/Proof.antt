@@ -1,6 +1,5 @@
 -- An edge that names something past the end breaks the rule at that test; one that passes all four keeps it.
 use mathlib.Core.Path.{sym}
-use Prim.Native.Nat.{_*_, _+_}
 use native.Mathlib.Omega.{arith}
 use borrow.Author.Needs.{needs}
 use lib.IntN.{pos}
@@ -15,83 +14,51 @@ use Rattle.records.proofs.edges.edge_names.Tie as tie
 abbrev rule : tie.Start → Formula
 rule c = edgeNames (sheetOf (pos 0) (pos 0) (c .args .vertices .now) (c .args .edges .now) (c .args .zones)) (c .args .e)
 
-mul-at : tie.Need-mul-at
-mul-at c = search needs
-
-mul-west : tie.Need-mul-west
-mul-west c = search needs
-
-shared-slice-read-west : tie.Need-shared-slice-read-west
-shared-slice-read-west c = search needs
+known-west-requires : tie.Need-known-west-requires
+known-west-requires c κs = search needs
 
 cast-if1 : tie.Need-cast-if1
-cast-if1 c = omega (arith, c .shared-slice-known .given (4 * c .before .args .e))
+cast-if1 c = search needs
 
 returns : tie.Need-returns
-returns c = sym (fails (rule (c .before .before)) (λ m. omega arith))
+returns c = sym (fails (rule (c .before .before .before)) (λ m. omega arith))
 
-add-east : tie.Need-add-east
-add-east c = search needs
-
-mul-east : tie.Need-mul-east
-mul-east c = search needs
-
-shared-slice-read-east : tie.Need-shared-slice-read-east
-shared-slice-read-east c = search needs
+known-east-requires : tie.Need-known-east-requires
+known-east-requires c κs = search needs
 
 cast-if2 : tie.Need-cast-if2
-cast-if2 c = omega (arith, c .shared-slice-known2 .given (4 * c .before .before .before .args .e + 1))
+cast-if2 c = search needs
 
 returns-2 : tie.Need-returns-2
-returns-2 c = sym (fails (rule (c .before .before .before .before)) (λ m. omega arith))
+returns-2 c = sym (fails (rule (c .before .before .before .before .before)) (λ m. omega arith))
 
-add-above : tie.Need-add-above
-add-above c = search needs
-
-mul-above : tie.Need-mul-above
-mul-above c = search needs
-
-shared-slice-read-above : tie.Need-shared-slice-read-above
-shared-slice-read-above c = search needs
+known-above-requires : tie.Need-known-above-requires
+known-above-requires c κs = search needs
 
 returns-3 : tie.Need-returns-3
-returns-3 c = sym (fails (rule (c .before .before .before .before .before .before)) (λ m. omega arith))
+returns-3 c = sym (fails (rule (c .before .before .before .before .before .before .before)) (λ m. omega arith))
 
-add-below : tie.Need-add-below
-add-below c = search needs
-
-mul-below : tie.Need-mul-below
-mul-below c = search needs
-
-shared-slice-read-below : tie.Need-shared-slice-read-below
-shared-slice-read-below c = search needs
+known-below-requires : tie.Need-known-below-requires
+known-below-requires c κs = search needs
 
 returns-4 : tie.Need-returns-4
-returns-4 c = sym (fails (rule (c .before .before .before .before .before .before .before .before)) (λ m. omega arith))
+returns-4 c = sym (fails (rule (c .before .before .before .before .before .before .before .before .before)) (λ m. omega arith))
 
 returns-5 : tie.Need-returns-5
-returns-5 c = sym (held (rule (c .before .before .before .before .before .before .before .before)) ((omega arith, omega arith), (omega arith, omega arith)))
+returns-5 c = sym (held (rule (c .before .before .before .before .before .before .before .before .before)) ((omega arith, omega arith), (omega arith, omega arith)))
 
 pub edge-names-spec : {M : Type 1} → statement M
 edge-names-spec =
     tie.close
     (tie.spec
-    mul-at
-    mul-west
-    shared-slice-read-west
+    known-west-requires
     cast-if1
     returns
-    add-east
-    mul-east
-    shared-slice-read-east
+    known-east-requires
     cast-if2
     returns-2
-    add-above
-    mul-above
-    shared-slice-read-above
+    known-above-requires
     returns-3
-    add-below
-    mul-below
-    shared-slice-read-below
+    known-below-requires
     returns-4
     returns-5)
