@@ -33,9 +33,11 @@ by-order P p q f g h = go (decLe q p) (decLe p q)
     go (yes m) (yes n) = let k : p ≡ q = omega arith in rw (side-on q p (sym k), le-ltb p q m, le-ltb q p n, eq-eqb p q k) g
     go (yes m) (no n) = let k : q < p = omega arith in rw (side-below q p k, le-ltb p q m, lt-ltb q p k, ne-eqb p q (ne-of-gt k)) h
 
-abbrev andAlso : Bool → Bool → Bool
+-- the second test is made only where the first holds
+abbrev pub andAlso : Bool → Bool → Bool
 andAlso a b = elim a [ true ↦ b | false ↦ false ]
 
+-- the second test is made only where the first fails
 abbrev orElse : Bool → Bool → Bool
 orElse a b = elim a [ true ↦ true | false ↦ b ]
 

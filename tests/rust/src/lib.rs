@@ -134,6 +134,11 @@ impl Random {
     }
 }
 
+/// Words to lend, each another, and none that a call would write.
+pub fn lent(words: usize) -> Vec<u32> {
+    (0..words as u32).map(|w| w.wrapping_mul(2_654_435_761) ^ 0xA5A5_A5A5).collect()
+}
+
 /// How many calls a random test makes: `CALLS` where that is set.
 pub fn calls(usual: usize) -> usize {
     std::env::var("CALLS").ok().and_then(|s| s.parse().ok()).unwrap_or(usual)

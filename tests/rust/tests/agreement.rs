@@ -1,18 +1,13 @@
 //! Random calls of opening, plain reading and quick search beside document 01 by brute force: both agree on every word.
 use thawweasel_tests::faults::{self, MISNAMED};
 use thawweasel_tests::paper::{self, Searched, CAUSES};
-use thawweasel_tests::{calls, damage, enough, open, read, search, sheets, sheets::Sheet, Random};
+use thawweasel_tests::{calls, damage, enough, lent, open, read, search, sheets, sheets::Sheet, Random};
 
 /// The refusals at which faults are aimed, 0 for what goes to a limit.
 const ALL: [u32; 13] = [0, 1, 2, 4, 5, 6, 7, 8, 9, 10, 11, 12, 13];
 
 /// The last refusals, which come to light only where nothing else is wrong.
 const LATE: [u32; 5] = [9, 10, 11, 12, 13];
-
-/// Words to lend, each another, and none that a call would write.
-fn lent(words: usize) -> Vec<u32> {
-    (0..words as u32).map(|w| w.wrapping_mul(2_654_435_761) ^ 0xA5A5_A5A5).collect()
-}
 
 /// What makes a sheet rich, and whether this accepted one has it.
 fn structure(s: &Sheet) -> [(&'static str, bool); 8] {

@@ -1,9 +1,9 @@
 //! Opening at and past the limits of counts, records, margins and coordinates.
-use thawweasel_tests::{open, sheets, sheets::lens, sheets::Sheet, Random};
+use thawweasel_tests::{lent, open, sheets, sheets::lens, sheets::Sheet, Random};
 
 /// Opens a sheet with so many words lent; only the index may be written, and only where the sheet is opened.
 fn opened(s: &Sheet, words: usize) -> [u32; 2] {
-    let lent: Vec<u32> = (0..words as u32).map(|w| w.wrapping_mul(2_654_435_761)).collect();
+    let lent = lent(words);
     let mut index = lent.clone();
     let said = open(s, &mut index);
     let wrote = if said == [0, 0] { s.need() } else { 0 };

@@ -1,9 +1,9 @@
 //! The quick search over any words, with several refusals at once, and where only one zone is left to judge.
-use thawweasel_tests::{calls, enough, paper, search, sheets, sheets::lens, sheets::Sheet, Random};
+use thawweasel_tests::{calls, enough, lent, paper, search, sheets, sheets::lens, sheets::Sheet, Random};
 
 /// Searches over so many lent trail words: what it said and the counted entries; every other word must be as it was lent.
 fn searched(s: &Sheet, index: &[u32], (x, y): (i32, i32), room: usize) -> ([u32; 5], Vec<u32>) {
-    let lent: Vec<u32> = (0..room as u32).map(|w| w.wrapping_mul(2_654_435_761) ^ 0xA5A5_A5A5).collect();
+    let lent = lent(room);
     let mut trail = lent.clone();
     let said = search(s, index, x, y, &mut trail);
     let counted = said[3] as usize;

@@ -5,17 +5,12 @@ use thawweasel_tests::{calls, damage, enough, faults, plain::Tables, sheets, she
 /// The refusals at which faults are aimed.
 const AIMS: [u32; 12] = [1, 2, 4, 5, 6, 7, 8, 9, 10, 11, 12, 13];
 
-/// The tables of a sheet.
-fn tables(s: &Sheet) -> Tables<'_> {
-    Tables { west: s.west, east: s.east, vertices: &s.vertices, edges: &s.edges, zones: s.zones }
-}
-
 /// Opens a sheet and reads a point of it both ways, and gives the index as it is left.
 fn opened(s: &Sheet, words: usize, (x, y): (i32, i32)) -> ([u32; 2], Vec<u32>) {
     let mut index = vec![7; words];
     let (said, left) = paper::open(s, &index);
-    assert_eq!((tables(s).open(&mut index), &index), (said, &left), "{s:?}");
-    assert_eq!(tables(s).read(x, y), paper::read(s, x, y).values(), "({x}, {y}) of {s:?}");
+    assert_eq!((Tables::from(s).open(&mut index), &index), (said, &left), "{s:?}");
+    assert_eq!(Tables::from(s).read(x, y), paper::read(s, x, y).values(), "({x}, {y}) of {s:?}");
     (said, left)
 }
 
@@ -23,7 +18,7 @@ fn opened(s: &Sheet, words: usize, (x, y): (i32, i32)) -> ([u32; 2], Vec<u32>) {
 fn searched(s: &Sheet, index: &[u32], (x, y): (i32, i32), room: usize) -> Searched {
     let mut trail = vec![7; room];
     let expected = paper::search(s, index, x, y, &trail);
-    assert_eq!((tables(s).search(index, x, y, &mut trail), &trail), (expected.out, &expected.trail), "({x}, {y}) of {s:?}");
+    assert_eq!((Tables::from(s).search(index, x, y, &mut trail), &trail), (expected.out, &expected.trail), "({x}, {y}) of {s:?}");
     expected
 }
 

@@ -42,11 +42,6 @@ fn row(name: &str, mut ways: [(usize, Way); 3]) {
     println!("| {name} | {proved} | {plain} | {brute} | {to_plain:.2} | {to_brute:.4} |");
 }
 
-/// The tables of a sheet.
-fn tables(s: &Sheet) -> Tables<'_> {
-    Tables { west: s.west, east: s.east, vertices: &s.vertices, edges: &s.edges, zones: s.zones }
-}
-
 /// Words cleared where that is asked for.
 fn ready(words: &mut [u32], cleared: bool) -> &mut [u32] {
     if cleared {
@@ -66,7 +61,7 @@ fn words(cleared: bool) -> &'static str {
 
 /// Times opening.
 fn opening(s: &Sheet, cleared: bool) {
-    let t = tables(s);
+    let t = Tables::from(s);
     let mut index = [vec![0; s.need()], vec![0; s.need()]];
     assert_eq!((open(s, &mut index[0]), t.open(&mut index[1])), ([0, 0], [0, 0]));
     assert_eq!(index[0], index[1]);
@@ -90,7 +85,7 @@ fn each<T>(points: &[(i32, i32)], mut call: impl FnMut(i32, i32) -> T) {
 
 /// Times the plain reading of points.
 fn reading(s: &Sheet, kind: &str, points: &[(i32, i32)]) {
-    let t = tables(s);
+    let t = Tables::from(s);
     each(points, |x, y| assert_eq!(read(s, x, y), t.read(x, y)));
     let (few, one) = (&points[..4], &points[..1]);
     let name = format!("read | {} | {kind} | none", s.edges.len() / 4);
@@ -103,7 +98,7 @@ fn reading(s: &Sheet, kind: &str, points: &[(i32, i32)]) {
 
 /// Times the quick search of points.
 fn searching(s: &Sheet, kind: &str, points: &[(i32, i32)], cleared: bool) {
-    let t = tables(s);
+    let t = Tables::from(s);
     let mut index = vec![0; s.need()];
     assert_eq!(open(s, &mut index), [0, 0]);
     let first = index[s.zones as usize];

@@ -7,6 +7,7 @@ use Rattle.subdivision.specs.declared.Segment.{Segment}
 use Rattle.subdivision.specs.Formula.{Formula, isLess, both, holds}
 use Rattle.subdivision.specs.Lines.{overlapWest, overlapEast}
 use Rattle.theory.proofs.Decide.{means, denies, computes}
+use Rattle.geometry.proofs.Crossing.{andAlso}
 use Rattle.geometry.proofs.lines.overlap.Statement.{statement}
 use Rattle.geometry.proofs.lines.overlap.Tie as tie
 
@@ -21,12 +22,8 @@ apart-overlap g h =
     (λ e. let m = means (apart g h) e in omega (arith, m .0 .0, m .0 .1, m .1 .0, m .1 .1))
     (λ e k. denies (apart g h) e ((omega arith, omega arith), (omega arith, omega arith)))
 
--- the second test is made only where the first holds
-abbrev then : Bool → Bool → Bool
-then a b = elim a [ true ↦ b | false ↦ false ]
-
 -- four tests that are all made, as tests that stop at the first that fails
-all-made : (a b c d : Bool) → ((a && b) && (c && d)) ≡ then (then a b) (then c d)
+all-made : (a b c d : Bool) → ((a && b) && (c && d)) ≡ andAlso (andAlso a b) (andAlso c d)
 all-made false b c d = refl
 all-made true false c d = refl
 all-made true true false d = refl
