@@ -1,22 +1,13 @@
--- Words written one after the other to the front of lent ones, and the four parts of an index.
+-- The four parts of an index, written one after the other to the front of lent words.
 use mathlib.Core.Path.{_≡_, _∙_}
 use mathlib.Core.List.{List, _++_, append-assoc}
-use Prim.Native.Nat.{ℕ, suc, _+_}
+use Prim.Native.Nat.{ℕ, suc}
 use native.Mathlib.Nat.{zero-add}
 use native.Mathlib.Omega.{arith}
-use lib.ListN.{length, take, drop, length-append}
-use lib.Seq.{take-append-seam, drop-append-add, drop-drop}
+use lib.ListN.{length, length-append}
 use Rattle.subdivision.specs.Lists.{put}
 use Rattle.subdivision.specs.Layout.{placeWord, zoneWord, startWord, entryWord}
-
--- a list with words written over it from a place on
-abbrev pub over : List ℕ → List ℕ → ℕ → List ℕ
-over words lent at = take at lent ++ (words ++ drop (at + length words) lent)
-
--- words written where those before them end
-pub put-more : (done words lent : List ℕ) (at : ℕ) → at ≡ length done → over words (put done lent) at ≡ put (done ++ words) lent
-put-more done words lent at e =
-    rw (e, take-append-seam, drop-append-add, drop-drop, append-assoc, length-append)
+use Rattle.theory.proofs.Written.{over, put-more}
 
 -- the four parts of an index, each written where Layout.antt has it
 pub parts-put : (place line starts entries lent first second third fourth : List ℕ) (o a b c : ℕ)

@@ -1,9 +1,9 @@
 // The judgement of the tables: the limits, and the rules with the line of zones.
-use crate::counts::counts_kept;
-use crate::counts::margins_kept;
+use crate::margins::margins_kept;
 use crate::parts::judge_drawing;
 use crate::parts::judge_records;
 use crate::parts::judge_zones;
+use counts::counts_kept;
 use subdivision::MAX_ZONES;
 use subdivision::Verdict;
 ghost use mathlib.Core.Path.{_≡_};
@@ -16,7 +16,7 @@ ghost use Rattle.subdivision.specs.Faults.{GivenBy, tableRefusals};
 ghost use Rattle.subdivision.specs.Accepted.{Accepted};
 ghost use Rattle.sheet.specs.Judgement.{lineLeft};
 
-mod counts;
+mod margins;
 mod parts;
 
 // The limits: refusal 1, then refusal 2.

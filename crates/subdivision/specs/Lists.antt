@@ -19,5 +19,5 @@ keep test [] = []
 keep test (x ∷ xs) = elim (test x) [ true ↦ x ∷ keep test xs | false ↦ keep test xs ]
 
 -- words written over the front of a lent list; what is past them stays
-abbrev pub put : List ℕ → List ℕ → List ℕ
+abbrev pub put : {A : Type 0} → List A → List A → List A
 put words lent = words ++ drop (length words) lent

@@ -38,13 +38,17 @@ abbrev pub judged : List Refusal → Verdict
 judged [] = Passed
 judged (r ∷ rs) = elim (holds (r .kept)) [ true ↦ judged rs | false ↦ Refused (r .number) (names r) ]
 
+-- so many vertices, edges and zones are within their limits
+abbrev pub countsWithin : ℕ → ℕ → ℕ → Formula
+countsWithin vertices edges zones =
+    both (both (isAtMost vertices maxVertices) (isAtMost edges maxEdges)) (both (isAtMost 1 zones) (isAtMost zones maxZones))
+
 module _ (s : Sheet) where
   -- refusal 1: the tables are whole records, and no count is beyond its limit
   abbrev pub countsKept : Formula
   countsKept =
       both (both (isEqual (length (s .vertices) % 2) 0) (isEqual (length (s .edges) % 4) 0))
-      (both (both (isAtMost (vertexCount s) maxVertices) (isAtMost (edgeCount s) maxEdges))
-      (both (isAtMost 1 (zoneCount s)) (isAtMost (zoneCount s) maxZones)))
+      (countsWithin (vertexCount s) (edgeCount s) (zoneCount s))
 
   -- refusal 2: both margins are in range, and W < E
   abbrev pub marginsKept : Formula

@@ -67,4 +67,5 @@ pub mod Tops
 pub mod TransectNames
 pub mod Transects
 pub mod Turns
+pub mod Written
 pub mod ZoneLine

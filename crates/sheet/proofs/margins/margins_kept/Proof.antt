@@ -11,8 +11,8 @@ use Rattle.subdivision.specs.Sheet.{sheetOf, shifted}
 use Rattle.subdivision.specs.Rules.{inRange}
 use Rattle.subdivision.specs.Refusals.{marginsKept}
 use Rattle.theory.proofs.Decide.{means, denies, fails, computes}
-use Rattle.sheet.proofs.counts.margins_kept.Statement.{statement}
-use Rattle.sheet.proofs.counts.margins_kept.Tie as tie
+use Rattle.sheet.proofs.margins.margins_kept.Statement.{statement}
+use Rattle.sheet.proofs.margins.margins_kept.Tie as tie
 
 -- the limit on two shifted margins
 abbrev kept : ℕ → ℕ → Formula

@@ -1,0 +1,95 @@
+-- What the program prints for a page: document 02, P1, "prints a line for each point".
+use mathlib.Core.Bool.{true, false}
+use mathlib.Core.List.{List, [], _∷_, _++_}
+use Prim.Native.Nat.{ℕ, zero, suc, _+_, _^_}
+use lib.Dec.{leb, ltb}
+use lib.ListN.{length}
+use Rattle.io.specs.Digits.{digits}
+use Rattle.subdivision.specs.declared.Answer.{Answer}
+use Rattle.subdivision.specs.declared.Verdict.the-variants.{Passed, Refused}
+use Rattle.subdivision.specs.Lowest.{lowest}
+use Rattle.subdivision.specs.Lists.{put}
+use Rattle.subdivision.specs.Refusals.{judged}
+use Rattle.subdivision.specs.Faults.{tableRefusals}
+use Rattle.subdivision.specs.Calls.{reading}
+use Rattle.frames.specs.declared.Judged.{Judged}
+use Rattle.frames.specs.declared.Written.{Written}
+use Rattle.frames.specs.Digits.{signedOf}
+use Rattle.frames.specs.Lines.{newline}
+use Rattle.frames.specs.Pages.{headVertices, headEdges, numberOf, judgedPage, pageSheet}
+use Rattle.frames.specs.Texts.{PageWritten}
+
+-- the longest page that the program reads
+abbrev pub maxPage : ℕ
+maxPage = 65536
+
+-- the room that a text for any page asks
+abbrev pub maxText : ℕ
+maxText = 131072
+
+-- a number in decimal: the fewest digits that hold it
+unfoldable pub decimal : ℕ → List ℕ
+decimal n = digits 10 (suc (lowest (λ k. ltb n (10 ^ suc k)) n)) n
+
+-- `vertex `
+abbrev pub vertexWord : List ℕ
+vertexWord = 118 ∷ 101 ∷ 114 ∷ 116 ∷ 101 ∷ 120 ∷ 32 ∷ []
+
+-- `edge `
+abbrev pub edgeWord : List ℕ
+edgeWord = 101 ∷ 100 ∷ 103 ∷ 101 ∷ 32 ∷ []
+
+-- `zone `
+abbrev pub zoneWord : List ℕ
+zoneWord = 122 ∷ 111 ∷ 110 ∷ 101 ∷ 32 ∷ []
+
+-- `refused `
+abbrev pub refusedWord : List ℕ
+refusedWord = 114 ∷ 101 ∷ 102 ∷ 117 ∷ 115 ∷ 101 ∷ 100 ∷ 32 ∷ []
+
+-- a word, a number and a newline
+abbrev pub numbered : List ℕ → ℕ → List ℕ
+numbered word n = word ++ (decimal n ++ (newline ∷ []))
+
+-- the line of a refusal: its number and the item that it names
+abbrev pub refusedText : ℕ → ℕ → List ℕ
+refusedText number item = refusedWord ++ (decimal number ++ (32 ∷ decimal item ++ (newline ∷ [])))
+
+-- the line of an answer
+unfoldable pub answerText : Answer → List ℕ
+answerText (Answer.Vertex v) = numbered vertexWord v
+answerText (Answer.Edge e) = numbered edgeWord e
+answerText (Answer.Zone z) = numbered zoneWord z
+answerText (Answer.Refused number item) = refusedText number item
+
+module _ (page : List ℕ) where
+  -- the plain reading of point k on the page's sheet
+  abbrev pub pointRead : ℕ → Answer
+  pointRead k =
+      reading (pageSheet page) (signedOf (numberOf page (1 + headVertices page + headEdges page + k) 0)) (signedOf (numberOf page (1 + headVertices page + headEdges page + k) 1))
+
+  -- the lines of so many points
+  abbrev pub answersText : ℕ → List ℕ
+  answersText zero = []
+  answersText (suc count) = answersText count ++ answerText (pointRead count)
+
+  -- the whole page, then the sheet, then a line for each point; a page that is too long or refused, or a refused sheet, is one line alone
+  unfoldable pub placedText : List ℕ
+  placedText =
+      elim (ltb maxPage (length page)) [
+        | true ↦ refusedText 34 0
+        | false ↦
+            elim (judgedPage page) [
+              | Judged.Refused number line ↦ refusedText number line
+              | Judged.Good count ↦
+                  elim (judged (tableRefusals (pageSheet page))) [ Refused number item ↦ refusedText number item | Passed ↦ answersText count ]
+            ]
+      ]
+
+  -- the text printed, written over the front of a lent one; 33 where that is shorter than any page may need
+  unfoldable pub placePage : List ℕ → PageWritten
+  placePage text =
+      elim (leb maxText (length text)) [
+        | true ↦ record { written = Written.Text (length placedText); text = put placedText text }
+        | false ↦ record { written = Written.Refused 33; text = text }
+      ]
