@@ -16,7 +16,7 @@ use Rattle.frames.specs.declared.Page.{Page}
 use Rattle.frames.specs.Lines.{lineStart, lineEnd}
 use Rattle.frames.specs.Pages.{headVertices, headEdges, isWhole, isWellMade, isInOrder, keepsLimits, isGood, isEnd, firstNotGood, lineRefusal, judgedPage, GoodBefore, LineRefuses}
 use Rattle.frames.specs.Pages.{headOf, vertexWords, edgeWords, pointWords, roomKept, readPage, GoodPage}
-use Rattle.theory.proofs.Decide.{below-suc, means, held, fails, denies, true-or-false}
+use Rattle.theory.proofs.Decide.{below-suc, means, held, fails, denies, decided}
 use Rattle.theory.proofs.Lowest.{is-lowest, lowest-before, lowest-passes, lowest-le}
 use Rattle.framing.proofs.LineEnds.{line-end-from}
 
@@ -89,10 +89,6 @@ module _ (page : List ℕ) where
   line-refused number k (inr (inl r)) = rw (r .0) (refused-30 k (r .1 .0) (r .1 .1))
   line-refused number k (inr (inr (inl r))) = rw (r .0) (refused-31 k (r .1 .0) (r .1 .1 .0) (r .1 .1 .1))
   line-refused number k (inr (inr (inr r))) = rw (r .0) (refused-1 k (r .1 .0) (r .1 .1 .0) (r .1 .1 .1 .0) (r .1 .1 .1 .1))
-
-  -- a formula is so, or it is not
-  decided : (p : Formula) → Means p ⊎ (Means p → ⊥)
-  decided p = ⊎-elim (λ e. inl (means p e)) (λ e. inr (denies p e)) (true-or-false (holds p))
 
   -- and the other way round
   pub refused-line : (k : ℕ) → (Means (isGood page k) → ⊥) → (Means (isEnd page k) → ⊥) → LineRefuses page (lineRefusal page k) k

@@ -15,3 +15,5 @@ pub mod TextDigits
 pub mod TextFrames
 pub mod TextPages
 pub mod TextTables
+pub mod Widths
+pub mod WrittenFrames

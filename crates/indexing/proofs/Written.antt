@@ -5,9 +5,9 @@ use Prim.Native.Nat.{ℕ, suc}
 use native.Mathlib.Nat.{zero-add}
 use native.Mathlib.Omega.{arith}
 use lib.ListN.{length, length-append}
-use Rattle.subdivision.specs.Lists.{put}
+use Rattle.subdivision.specs.Lists.{put, over}
 use Rattle.subdivision.specs.Layout.{placeWord, zoneWord, startWord, entryWord}
-use Rattle.theory.proofs.Written.{over, put-more}
+use Rattle.theory.proofs.Written.{put-more}
 
 -- the four parts of an index, each written where Layout.antt has it
 pub parts-put : (place line starts entries lent first second third fourth : List ℕ) (o a b c : ℕ)

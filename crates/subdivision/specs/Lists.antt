@@ -1,8 +1,8 @@
 -- Lists as the other definitions use them: a function's values, the entries that pass a test, words written over lent ones.
 use mathlib.Core.Bool.{Bool, true, false}
 use mathlib.Core.List.{List, [], _∷_, _++_}
-use Prim.Native.Nat.{ℕ, zero, suc}
-use lib.ListN.{length, drop}
+use Prim.Native.Nat.{ℕ, zero, suc, _+_}
+use lib.ListN.{length, take, drop}
 
 -- `f at`, `f (at + 1)`, .. : as many as are left
 abbrev pub tabFrom : {A : Type 0} → (ℕ → A) → ℕ → ℕ → List A
@@ -21,3 +21,7 @@ keep test (x ∷ xs) = elim (test x) [ true ↦ x ∷ keep test xs | false ↦ k
 -- words written over the front of a lent list; what is past them stays
 abbrev pub put : {A : Type 0} → List A → List A → List A
 put words lent = words ++ drop (length words) lent
+
+-- words written over a lent list from a place on; what is before and past them stays
+abbrev pub over : {A : Type 0} → List A → List A → ℕ → List A
+over words lent at = take at lent ++ (words ++ drop (at + length words) lent)

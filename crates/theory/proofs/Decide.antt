@@ -126,6 +126,10 @@ denies p e m = not-both (held p m) e
 pub fails : (p : Formula) → (Means p → ⊥) → holds p ≡ false
 fails p f = ⊎-elim (λ e. absurd (f (means p e))) (λ e. e) (true-or-false (holds p))
 
+-- a formula is so, or it is not
+pub decided : (p : Formula) → Means p ⊎ (Means p → ⊥)
+decided p = ⊎-elim (λ e. inl (means p e)) (λ e. inr (denies p e)) (true-or-false (holds p))
+
 -- a formula made of two, where the first is known
 pub both-goes-on : (p q : Formula) → holds p ≡ true → holds (both p q) ≡ holds q
 both-goes-on p q e = rw e

@@ -2,18 +2,15 @@
 use mathlib.Core.Path.{_≡_, refl, sym, ap, _∙_}
 use mathlib.Core.List.{List, [], _∷_, _++_, append-assoc}
 use Prim.Native.Nat.{ℕ, suc, _+_, _-_, _<_, _≤_}
-use native.Mathlib.Nat.{zero-add}
+use native.Mathlib.Nat.{zero-add, add-zero}
+use native.Mathlib.Numerals.{add-one}
 use native.Mathlib.Omega.{arith}
-use lib.ListN.{length, getD, set, take, drop, length-append, length-drop}
-use lib.Seq.{length-take-le, take-append-seam, drop-append-add, drop-drop, set-at, append-snoc, drop-cons}
-use Rattle.subdivision.specs.Lists.{tab, put}
+use lib.ListN.{length, getD, set, take, drop, length-append, length-drop, take-append-drop}
+use lib.Seq.{length-take-le, take-append-seam, drop-append-add, drop-drop, set-at, set-split, append-snoc, drop-cons}
+use Rattle.subdivision.specs.Lists.{tab, put, over}
 use Rattle.theory.proofs.Lists.{length-tab, tab-more}
 
 module _ {A : Type 0} where
-  -- a list with entries written over it from a place on
-  abbrev pub over : List A → List A → ℕ → List A
-  over words lent at = take at lent ++ (words ++ drop (at + length words) lent)
-
   -- entries written where those before them end
   pub put-more : (done words lent : List A) (at : ℕ) → at ≡ length done → over words (put done lent) at ≡ put (done ++ words) lent
   put-more done words lent at e =
@@ -54,6 +51,24 @@ module _ {A : Type 0} where
   -- entries written from the start on are put
   pub over-front : (words lent : List A) → over words lent 0 ≡ put words lent
   over-front words lent = rw (zero-add (length words))
+
+  -- nothing written leaves a list as it is
+  pub over-none : (lent : List A) (at : ℕ) → lent ≡ over [] lent at
+  over-none lent at = rw (add-zero at) (sym (take-append-drop at lent))
+
+  -- one entry written
+  pub over-one : (x : A) (lent : List A) (at : ℕ) → at < length lent → set lent at x ≡ over (x ∷ []) lent at
+  over-one x lent at h = rw (add-one at) (set-split lent at x h)
+
+  -- four parts written one after the other from the start on
+  pub four-over : (a b c d lent : List A) (x y z : ℕ) → x ≡ length a → y ≡ x + length b → z ≡ y + length c
+      → over d (over c (over b (over a lent 0) x) y) z ≡ put (a ++ (b ++ (c ++ d))) lent
+  four-over a b c d lent x y z e f g =
+      ap (λ l. over d (over c (over b l x) y) z) (over-front a lent)
+      ∙ ap (λ l. over d (over c l y) z) (put-more a b lent x e)
+      ∙ ap (λ l. over d l z) (put-more (a ++ b) c lent y (omega (arith, length-append a b)))
+      ∙ put-more ((a ++ b) ++ c) d lent z (omega (arith, length-append a b, length-append (a ++ b) c))
+      ∙ ap (λ l. put l lent) (append-assoc (a ++ b) c d ∙ append-assoc a b (c ++ d))
 
   -- ---- a function's values, written one after the other
 

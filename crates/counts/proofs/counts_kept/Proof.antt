@@ -30,7 +30,8 @@ counts-within-requires : tie.Need-counts-within-requires
 counts-within-requires c κs = search needs
 
 returns-3 : tie.Need-returns-3
-returns-3 c = let s = c .before .before .before .before in
+returns-3 c =
+    let s = c .before .before .before .before in
     computes (limits s) (c .counts-within .result)
     (λ e. ((c .before .before .if1 .left, c .before .if2 .left), means (within s) (sym (c .counts-within .ensures) ∙ e)))
     (λ e m. denies (within s) (sym (c .counts-within .ensures) ∙ e) (m .1))

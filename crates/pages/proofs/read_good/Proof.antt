@@ -52,14 +52,16 @@ returns-2 : tie.Need-returns-2
 returns-2 c = short (c .before .before .before .before .before .before .before) (λ m. omega (arith, m .1 .0, counts (c .before .before .before .before) .1))
 
 mul-if3 : tie.Need-mul-if3
-mul-if3 c = let s = c .before .before .before .before .before .before .before in
+mul-if3 c =
+    let s = c .before .before .before .before .before .before .before in
     record { fits = omega (arith, good-length (s .args .page .now) (s .args .count) (s .pre)) }
 
 returns-3 : tie.Need-returns-3
 returns-3 c = short (c .before .before .before .before .before .before .before .before) (λ m. omega (arith, m .1 .1))
 
 read-tables-requires : tie.Need-read-tables-requires
-read-tables-requires c κs = let n = counts (c .before .before .before .before .before .before .before .before) in
+read-tables-requires c κs =
+    let n = counts (c .before .before .before .before .before .before .before .before) in
     let s = c .before .before .before .before .before .before .before .before .before .before .before in
     ((s .pre, (n .0, n .1)), (omega arith, (omega arith, omega arith)))
 
@@ -73,7 +75,8 @@ same-length-3 : tie.Need-same-length-3
 same-length-3 c = search needs
 
 returns-4 : tie.Need-returns-4
-returns-4 c = let h = c .before .before .before .before .before .before .before .before .before .before .before .before .before in
+returns-4 c =
+    let h = c .before .before .before .before .before .before .before .before .before .before .before .before .before in
     let s = h .before .before .before in
     let w = c .before .before .before .before .read-tables .ensures in
     let n = counts h in

@@ -29,7 +29,8 @@ is-digit-requires : tie.Need-is-digit-requires Inv-loop μ-loop
 is-digit-requires c κs = search needs
 
 returns : tie.Need-returns Inv-loop μ-loop
-returns c = let a = c .before .before .before .before .before .before .args in
+returns c =
+    let a = c .before .before .before .before .before .before .args in
     let i = c .before .before .before .before .loop .i in
     let here : a .at + (i - a .at) ≡ i = omega arith in
     let fault = sym (c .before .is-digit .ensures) ∙ not-true (c .before .is-digit .result) (c .if1 .taken) in
@@ -42,7 +43,8 @@ loop-less : tie.Need-loop-less Inv-loop μ-loop
 loop-less c = search needs
 
 loop-again : tie.Need-loop-again Inv-loop μ-loop
-loop-again c = let a = c .before .before .before .before .before .before .args in
+loop-again c =
+    let a = c .before .before .before .before .before .before .args in
     let l = c .before .before .before .before .loop in
     let here : a .at + (l .i - a .at) ≡ l .i = omega arith in
     let more : l .i + 1 - a .at ≡ suc (l .i - a .at) = omega arith in
@@ -50,7 +52,8 @@ loop-again c = let a = c .before .before .before .before .before .before .args i
     ((omega arith, omega arith), λ k h. ⊎-elim (λ (e : k ≡ l .i - a .at). rw (e, here) digit) (l .inv .1 k) (below-suc (rw more at h)))
 
 returns-2 : tie.Need-returns-2 Inv-loop μ-loop
-returns-2 c = let a = c .before .before .before .args in
+returns-2 c =
+    let a = c .before .before .before .args in
     let l = c .before .loop in
     let all : l .i ≡ a .end = omega arith in
     sym (held (isHexadecimal (a .page .now) (a .at) (a .end)) (rw all at (l .inv .1)))

@@ -20,7 +20,8 @@ returns-3 : tie.Need-returns-3
 returns-3 c = sym (fails (isDigit (c .before .before .before .args .b)) (⊎-elim (λ m. omega (arith, m .1)) (λ m. omega (arith, m .0))))
 
 returns-4 : tie.Need-returns-4
-returns-4 c = let b = c .before .before .before .args .b in
+returns-4 c =
+    let b = c .before .before .before .args .b in
     computes (isDigit b) (leb b 102) (λ e. inr (omega arith, leb-true b 102 e))
     (λ e. let past = leb-false b 102 e in ⊎-elim (λ (m : (48 ≤ b) × (b ≤ 57)). omega (arith, m .1)) (λ (m : (97 ≤ b) × (b ≤ 102)). omega (arith, m .1)))
 

@@ -51,13 +51,15 @@ loop-less : tie.Need-loop-less Inv-loop μ-loop
 loop-less c = search needs
 
 loop-again : tie.Need-loop-again Inv-loop μ-loop
-loop-again c = let l = c .before .before .before .loop in
+loop-again c =
+    let l = c .before .before .before .loop in
     let a = c .before .before .before .before .before .args in
     let digit : c .digit-value .result ≡ digitValue (getD (a .page .now) (a .at + l .i) 0) = c .digit-value .ensures .0 ∙ ap digitValue (c .before .byte .ensures) in
     (omega arith, (rw (add-one (l .i), l .inv .1 .0, digit) refl, rw (add-one (l .i), pow-succ') (omega (arith, c .digit-value .ensures .1))))
 
 returns : tie.Need-returns Inv-loop μ-loop
-returns c = let l = c .before .loop in
+returns c =
+    let l = c .before .loop in
     let a = c .before .before .before .args in
     let all : l .i ≡ a .count = omega arith in
     l .inv .1 .0 ∙ ap (number (a .page .now) (a .at)) all

@@ -22,7 +22,8 @@ cast-result-2 : tie.Need-cast-result-2
 cast-result-2 c = search needs
 
 returns-2 : tie.Need-returns-2
-returns-2 c = let back : 4294967295 - (4294967295 - c .before .args .w) ≡ c .before .args .w = omega arith in
+returns-2 c =
+    let back : 4294967295 - (4294967295 - c .before .args .w) ≡ c .before .args .w = omega arith in
     ap (toZ w32) back ∙ signed-high (c .before .args .w) (omega arith)
 
 pub signed-of-spec : {M : Type 1} → statement M

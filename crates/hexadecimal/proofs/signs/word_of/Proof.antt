@@ -21,11 +21,13 @@ add-result : tie.Need-add-result
 add-result c = search needs
 
 returns : tie.Need-returns
-returns c = let s = c .before in
+returns c =
+    let s = c .before in
     rw (said s) (word-low (s .before .args .v) (s .before .fits .v .sfits) (omega (arith, said s)))
 
 returns-2 : tie.Need-returns-2
-returns-2 c = let s = c .before in
+returns-2 c =
+    let s = c .before in
     rw (said s) (word-high (s .before .args .v) (s .before .fits .v .sfits) (omega (arith, said s)))
 
 pub word-of-spec : {M : Type 1} → statement M

@@ -38,14 +38,16 @@ line-end-requires : tie.Need-line-end-requires
 line-end-requires c κs = search needs
 
 returns-2 : tie.Need-returns-2
-returns-2 c = let a = c .before .before .before .before .args in
+returns-2 c =
+    let a = c .before .before .before .before .args in
     sym (at-unfinished (a .page .now) (a .at) (omega arith) (omega (arith, c .before .line-end .ensures .0)))
 
 hexadecimal-requires : tie.Need-hexadecimal-requires
 hexadecimal-requires c κs = search needs
 
 returns-3 : tie.Need-returns-3
-returns-3 c = let a = c .before .before .before .before .before .before .args in
+returns-3 c =
+    let a = c .before .before .before .before .before .before .args in
     let e = c .before .before .before .line-end in
     let fault = sym (c .before .hexadecimal .ensures) ∙ not-true (c .before .hexadecimal .result) (c .if3 .taken) in
     malformed (a .page .now) (a .at) (e .result) (e .ensures .0) (e .ensures .1 .1) (c .before .before .if2 .left) (λ m. denies (isHexadecimal (a .page .now) (a .at) (e .result)) fault (m .0))
@@ -54,7 +56,8 @@ number-requires : tie.Need-number-requires
 number-requires c κs = search needs
 
 returns-4 : tie.Need-returns-4
-returns-4 c = let a = c .before .before .before .before .before .before .before .before .args in
+returns-4 c =
+    let a = c .before .before .before .before .before .before .before .before .args in
     let e = c .before .before .before .before .before .line-end in
     malformed (a .page .now) (a .at) (e .result) (e .ensures .0) (e .ensures .1 .1) (c .before .before .before .before .if2 .left) (λ m. omega (arith, m .1 .0, c .before .number .ensures))
 
@@ -65,7 +68,8 @@ frame-length-requires : tie.Need-frame-length-requires
 frame-length-requires c κs = search needs
 
 returns-5 : tie.Need-returns-5
-returns-5 c = let a = c .before .before .before .before .before .before .before .before .before .before .args in
+returns-5 c =
+    let a = c .before .before .before .before .before .before .before .before .before .before .args in
     let e = c .before .before .before .before .before .before .before .line-end in
     malformed (a .page .now) (a .at) (e .result) (e .ensures .0) (e .ensures .1 .1) (c .before .before .before .before .before .before .if2 .left) (λ m. c .if5 .taken (m .1 .1 ∙ ap frameLength (sym (c .before .before .before .number .ensures)) ∙ sym (c .before .frame-length .ensures)))
 
@@ -73,7 +77,8 @@ add-t5 : tie.Need-add-t5
 add-t5 c = search needs
 
 returns-6 : tie.Need-returns-6
-returns-6 c = let a = c .before .before .before .before .before .before .before .before .before .before .args in
+returns-6 c =
+    let a = c .before .before .before .before .before .before .before .before .before .before .args in
     let e = c .before .before .before .before .before .before .before .line-end in
     let n = c .before .before .before .number in
     let h = c .before .before .before .before .before .hexadecimal in

@@ -34,11 +34,13 @@ kind-in-order-requires : tie.Need-kind-in-order-requires
 kind-in-order-requires c κs = search needs
 
 returns : tie.Need-returns
-returns c = let s = c .before .before .before in
+returns c =
+    let s = c .before .before .before in
     refused-31 (text s) (s .args .line) (s .pre .1 .0 .0) (s .pre .1 .0 .1) (λ o. c .if1 .taken (s .pre .1 .1 .0 ∙ o ∙ sym (wanted (c .before))))
 
 returns-2 : tie.Need-returns-2
-returns-2 c = let s = c .before .before .before .before in
+returns-2 c =
+    let s = c .before .before .before .before in
     let order : Means (isInOrder (text s) (s .args .line)) = sym (s .pre .1 .1 .0) ∙ c .before .if1 .left ∙ wanted (c .before .before) in
     ((s .pre .1 .0 .0, (s .pre .1 .0 .1, (order, λ e. absurd (c .if2 .taken e)))), s .pre .1 .1 .1)
 
@@ -46,13 +48,15 @@ counts-within-requires : tie.Need-counts-within-requires
 counts-within-requires c κs = search needs
 
 returns-3 : tie.Need-returns-3
-returns-3 c = let s = c .before .before .before .before .before .before in
+returns-3 c =
+    let s = c .before .before .before .before .before .before in
     let order : Means (isInOrder (text s) (s .args .line)) = sym (s .pre .1 .1 .0) ∙ c .before .before .before .if1 .left ∙ wanted (c .before .before .before .before) in
     let broken = denies (countsWithin (headVertices (text s)) (headEdges (text s)) (headZones (text s))) (sym (within (c .before)) ∙ not-true (c .before .counts-within .result) (c .if3 .taken)) in
     refused-1 (text s) (s .args .line) (s .pre .1 .0 .0) (s .pre .1 .0 .1) order (λ l. broken (l (c .before .before .if2 .left)))
 
 returns-4 : tie.Need-returns-4
-returns-4 c = let s = c .before .before .before .before .before .before in
+returns-4 c =
+    let s = c .before .before .before .before .before .before in
     let order : Means (isInOrder (text s) (s .args .line)) = sym (s .pre .1 .1 .0) ∙ c .before .before .before .if1 .left ∙ wanted (c .before .before .before .before) in
     let kept = means (countsWithin (headVertices (text s)) (headEdges (text s)) (headZones (text s))) (sym (within (c .before)) ∙ not-false (c .before .counts-within .result) (c .if3 .left)) in
     ((s .pre .1 .0 .0, (s .pre .1 .0 .1, (order, λ e. kept))), s .pre .1 .1 .1)

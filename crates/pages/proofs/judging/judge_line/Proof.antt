@@ -36,7 +36,8 @@ enum-known-kind : tie.Need-enum-known-kind
 enum-known-kind c = search needs
 
 judge-frame-requires : tie.Need-judge-frame-requires
-judge-frame-requires c κs = let s = c .before .before .before .before .before in
+judge-frame-requires c κs =
+    let s = c .before .before .before .before .before in
     let l = told (c .before .before .before) _ (c .before .kind .given .1) in
     (s .pre .0, ((l .0, l .1 .0), (l .1 .1 .0, l .1 .1 .1)))
 
@@ -53,7 +54,8 @@ add-if1 : tie.Need-add-if1
 add-if1 c = search needs
 
 returns : tie.Need-returns
-returns c = let s = c .before .before .before .before .before in
+returns c =
+    let s = c .before .before .before .before .before in
     let l = told (c .before .before .before) _ (c .before .enum-told3 .given .1) in
     refused-32 (text s) (s .args .line) (λ w. omega (arith, l, w, line-end-from (text s) (start s))) (λ e. omega (arith, e .1, s .pre .0 .0, s .pre .0 .1 .0))
 
@@ -61,17 +63,20 @@ returns-2 : tie.Need-returns-2
 returns-2 c = search needs
 
 returns-3 : tie.Need-returns-3
-returns-3 c = let s = c .before .before .before .before in
+returns-3 c =
+    let s = c .before .before .before .before in
     let l = told (c .before .before) _ (c .enum-told .given .1) in
     refused-30 (text s) (s .args .line) (l .0) (l .1)
 
 returns-4 : tie.Need-returns-4
-returns-4 c = let s = c .before .before .before .before in
+returns-4 c =
+    let s = c .before .before .before .before in
     let l = told (c .before .before) _ (c .enum-told2 .given .1) in
     refused-32 (text s) (s .args .line) (λ w. omega (arith, l .1, w)) (λ e. omega (arith, l .0, e .0))
 
 returns-5 : tie.Need-returns-5
-returns-5 c = let s = c .before .before .before .before .before in
+returns-5 c =
+    let s = c .before .before .before .before .before in
     let l = told (c .before .before .before) _ (c .before .enum-told3 .given .1) in
     let end : Means (isEnd (text s) (s .args .line)) = (omega (arith, l, s .pre .1 .0, s .pre .1 .1), omega (arith, s .pre .0 .0, s .pre .0 .1 .0)) in
     (end, λ g. whole-not-end (text s) (s .args .line) (g .0) end)

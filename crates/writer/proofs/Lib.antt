@@ -1,0 +1,2 @@
+-- What the writer promises beside its equations.
+pub mod Promises
