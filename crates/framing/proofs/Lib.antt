@@ -17,3 +17,4 @@ pub mod TextPages
 pub mod TextTables
 pub mod Widths
 pub mod WrittenFrames
+pub mod AnswerTexts

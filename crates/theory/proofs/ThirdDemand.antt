@@ -1,24 +1,26 @@
 -- The third demand, of the quick search as it is defined; and the bounds of its counts, which hold for all inputs.
 use mathlib.Core.Path.{_≡_, refl, sym, _∙_, subst}
 use mathlib.Core.List.{List}
-use mathlib.Core.Logic.{_⊎_, inl, inr}
+use mathlib.Core.Logic.{_⊎_, inl, inr, ⊎-elim}
 use Prim.Native.Nat.{ℕ, _-_, _≤_, zero-le}
 use lib.IntN.{ℤ}
 use lib.ListN.{length}
 use Rattle.subdivision.specs.declared.Answer.{Answer}
 use Rattle.subdivision.specs.Dyadic.{bits}
 use Rattle.subdivision.specs.Sheet.{Sheet, shifted, zoneCount}
-use Rattle.subdivision.specs.Faults.{searchRefusals}
+use Rattle.subdivision.specs.Faults.{tableRefusals, searchRefusals}
 use Rattle.subdivision.specs.Accepted.{Accepted}
-use Rattle.subdivision.specs.Reading.{plainReading}
+use Rattle.subdivision.specs.Reading.{onSheet, plainReading}
 use Rattle.subdivision.specs.Placed.{OnSheet}
 use Rattle.subdivision.specs.Descent.{Descent, answered, descent, publishedDescent, indexDescent, tableLookUps, indexLookUps}
 use Rattle.subdivision.specs.Engine.{HoldsIndex, CountsBounded, QuickAnswers, ThirdDemand}
 use Rattle.subdivision.specs.Calls.{Searched, searchRefused, searchAnswered, reading, searching}
+use Rattle.theory.proofs.Decide.{decided, fails}
 use Rattle.theory.proofs.Descents.{descent-counts}
 use Rattle.theory.proofs.FaithfulLookUps.{tables-faithful, index-faithful}
+use Rattle.theory.proofs.Faults.{says-given}
 use Rattle.theory.proofs.HeldIndex.{held-long}
-use Rattle.theory.proofs.Judgement.{kept-passes}
+use Rattle.theory.proofs.Judgement.{accepted-decides, kept-passes, passed-keeps}
 use Rattle.theory.proofs.OneThing.{accepted-reads}
 use Rattle.theory.proofs.SameDescent.{SameEnd, descent-same}
 use Rattle.theory.proofs.SearchRefusals.{ByLine, ByAnswer, ByDamage, search-comes, descent-unrefused}
@@ -89,3 +91,20 @@ module _ (s : Sheet) (index : List ℕ) (x y : ℤ) (lent : List ℕ) where
   -- under the demand's premises the quick search answers as the call of the plain reading does
   pub searched-is-read : Accepted s → HoldsIndex s index → OnSheet s (shifted x) (shifted y) → bits (zoneCount s - 1) ≤ length lent → searching s index x y lent .found .answer ≡ reading s x y
   searched-is-read a h o room = third-demand a h o room .engine .plain ∙ sym (accepted-reads s a x y o)
+
+  -- off the sheet the search is refused 20
+  search-off : Accepted s → HoldsIndex s index → (OnSheet s (shifted x) (shifted y) → ⊥) → searching s index x y lent .found .answer ≡ Answer.Refused 20 0
+  unfolding searching
+  search-off a h off =
+      let kept = passed-keeps (tableRefusals s) (accepted-decides s .1 a) in
+      let refused = says-given (searchRefusals s (length index) (shifted x) (shifted y) (length lent)) 20 0 (inr (kept .0, inr (kept .1 .0, inr (held-long s a index h, inl (refl, (off, inl (refl, refl))))))) in
+      rw (refused, searching)
+
+  -- and so is the plain reading
+  read-off : Accepted s → (OnSheet s (shifted x) (shifted y) → ⊥) → reading s x y ≡ Answer.Refused 20 0
+  unfolding reading
+  read-off a off = rw (accepted-decides s .1 a, reading) (rw (fails (onSheet s (shifted x) (shifted y)) off))
+
+  -- an opened sheet searched at any point, with room for a trail, gives the plain reading's answer
+  pub searched-is-read-everywhere : Accepted s → HoldsIndex s index → bits (zoneCount s - 1) ≤ length lent → searching s index x y lent .found .answer ≡ reading s x y
+  searched-is-read-everywhere a held-index room = ⊎-elim (λ on. searched-is-read a held-index on room) (λ off. search-off a held-index off ∙ sym (read-off a off)) (decided (onSheet s (shifted x) (shifted y)))
