@@ -1,22 +1,23 @@
 -- What the program prints for a page: document 02, P1, "prints a line for each point".
 use mathlib.Core.Bool.{true, false}
 use mathlib.Core.List.{List, [], _∷_, _++_}
-use Prim.Native.Nat.{ℕ, zero, suc, _+_, _^_}
+use Prim.Native.Nat.{ℕ, zero, suc, _+_, _*_, _/_, _^_}
 use lib.Dec.{leb, ltb}
-use lib.ListN.{length}
+use lib.IntN.{ℤ, pos}
+use lib.ListN.{length, getD}
 use Rattle.io.specs.Digits.{digits}
 use Rattle.subdivision.specs.declared.Answer.{Answer}
 use Rattle.subdivision.specs.declared.Verdict.the-variants.{Passed, Refused}
 use Rattle.subdivision.specs.Lowest.{lowest}
 use Rattle.subdivision.specs.Lists.{put}
+use Rattle.subdivision.specs.Sheet.{Sheet}
 use Rattle.subdivision.specs.Refusals.{judged}
 use Rattle.subdivision.specs.Faults.{tableRefusals}
 use Rattle.subdivision.specs.Calls.{reading}
 use Rattle.frames.specs.declared.Judged.{Judged}
 use Rattle.frames.specs.declared.Written.{Written}
-use Rattle.frames.specs.Digits.{signedOf}
 use Rattle.frames.specs.Lines.{newline}
-use Rattle.frames.specs.Pages.{headVertices, headEdges, numberOf, judgedPage, pageSheet}
+use Rattle.frames.specs.Pages.{judgedPage, pageSheet, pointWords}
 use Rattle.frames.specs.Texts.{PageWritten}
 
 -- the longest page that the program reads
@@ -62,18 +63,19 @@ answerText (Answer.Edge e) = numbered edgeWord e
 answerText (Answer.Zone z) = numbered zoneWord z
 answerText (Answer.Refused number item) = refusedText number item
 
-module _ (page : List ℕ) where
-  -- the plain reading of point k on the page's sheet
-  abbrev pub pointRead : ℕ → Answer
-  pointRead k =
-      reading (pageSheet page) (signedOf (numberOf page (1 + headVertices page + headEdges page + k) 0)) (signedOf (numberOf page (1 + headVertices page + headEdges page + k) 1))
-
-  -- the lines of so many points
+module _ (s : Sheet) (points : List ℤ) where
+  -- the lines of the first so many points of a table, by the plain reading
   abbrev pub answersText : ℕ → List ℕ
   answersText zero = []
-  answersText (suc count) = answersText count ++ answerText (pointRead count)
+  answersText (suc count) = answersText count ++ answerText (reading s (getD points (2 * count) (pos 0)) (getD points (2 * count + 1) (pos 0)))
 
-  -- the whole page, then the sheet, then a line for each point; a page that is too long or refused, or a refused sheet, is one line alone
+  -- a line for each point of an accepted sheet; one refusal line alone for a refused one
+  unfoldable pub sheetText : List ℕ
+  sheetText =
+      elim (judged (tableRefusals s)) [ Refused number item ↦ refusedText number item | Passed ↦ answersText (length points / 2) ]
+
+module _ (page : List ℕ) where
+  -- the whole page, then its sheet with its points; a page that is too long or refused is one refusal line alone
   unfoldable pub placedText : List ℕ
   placedText =
       elim (ltb maxPage (length page)) [
@@ -81,8 +83,7 @@ module _ (page : List ℕ) where
         | false ↦
             elim (judgedPage page) [
               | Judged.Refused number line ↦ refusedText number line
-              | Judged.Good count ↦
-                  elim (judged (tableRefusals (pageSheet page))) [ Refused number item ↦ refusedText number item | Passed ↦ answersText count ]
+              | Judged.Good count ↦ sheetText (pageSheet page) (pointWords page count)
             ]
       ]
 

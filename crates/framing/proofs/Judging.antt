@@ -11,10 +11,12 @@ use lib.IntN.{ℤ}
 use lib.ListN.{length}
 use Rattle.subdivision.specs.Formula.{Formula, holds, Means}
 use Rattle.subdivision.specs.Lists.{put}
+use Rattle.subdivision.specs.Refusals.{countsWithin}
+use Rattle.frames.specs.declared.Head.{Head}
 use Rattle.frames.specs.declared.Judged.{Judged}
 use Rattle.frames.specs.declared.Page.{Page}
 use Rattle.frames.specs.Lines.{lineStart, lineEnd}
-use Rattle.frames.specs.Pages.{headVertices, headEdges, isWhole, isWellMade, isInOrder, keepsLimits, isGood, isEnd, firstNotGood, lineRefusal, judgedPage, GoodBefore, LineRefuses}
+use Rattle.frames.specs.Pages.{headVertices, headEdges, headZones, isWhole, isWellMade, isInOrder, keepsLimits, isGood, isEnd, firstNotGood, lineRefusal, judgedPage, GoodBefore, LineRefuses}
 use Rattle.frames.specs.Pages.{headOf, vertexWords, edgeWords, pointWords, roomKept, readPage, GoodPage}
 use Rattle.theory.proofs.Decide.{below-suc, means, held, fails, denies, decided}
 use Rattle.theory.proofs.Lowest.{is-lowest, lowest-before, lowest-passes, lowest-le}
@@ -39,6 +41,10 @@ numberIn (Judged.Refused number line) = number
 abbrev lineIn : Judged → ℕ
 lineIn (Judged.Good count) = 0
 lineIn (Judged.Refused number line) = line
+
+-- a sheet is no refusal
+pub sheet-not-refused : {head : Head} {count number line : ℕ} → Page.Sheet head count ≡ Page.Refused number line → ⊥
+sheet-not-refused e = let never : _≡_ {A = ℕ} 0 1 = cc in omega arith
 
 module _ (page : List ℕ) where
   -- good lines lie within the page, with a byte each at least
@@ -223,3 +229,41 @@ module _ (page : List ℕ) where
   unfolding readPage
   read-short count vertices edges points e short =
       rw (e, fails (roomKept page count (length vertices) (length edges) (length points)) short, readPage)
+
+  -- an answer with a sheet is that of a good page into tables with room
+  pub read-sheet : (vertices : List ℤ) (edges : List ℕ) (points : List ℤ) (head : Head) (count : ℕ) → readPage page vertices edges points .page ≡ Page.Sheet head count
+      → (judgedPage page ≡ Judged.Good count) × ((headOf page ≡ head) × Means (roomKept page count (length vertices) (length edges) (length points)))
+  read-sheet vertices edges points head count e = go (judgedPage page) refl
+    where
+      found : (n : ℕ) → judgedPage page ≡ Judged.Good n
+          → Means (roomKept page n (length vertices) (length edges) (length points)) ⊎ (Means (roomKept page n (length vertices) (length edges) (length points)) → ⊥)
+          → (judgedPage page ≡ Judged.Good count) × ((headOf page ≡ head) × Means (roomKept page count (length vertices) (length edges) (length points)))
+      found n j (inl room) =
+          let same : Page.Sheet (headOf page) n ≡ Page.Sheet head count = sym (ap (λ r. r .page) (read-good n vertices edges points j room)) ∙ e in
+          let h : headOf page ≡ head = cc in
+          let c : n ≡ count = cc in
+          (j ∙ ap Judged.Good c, (h, subst (λ k. Means (roomKept page k (length vertices) (length edges) (length points))) c room))
+      found n j (inr short) = absurd (sheet-not-refused (sym e ∙ ap (λ r. r .page) (read-short n vertices edges points j short)))
+
+      go : (j : Judged) → judgedPage page ≡ j
+          → (judgedPage page ≡ Judged.Good count) × ((headOf page ≡ head) × Means (roomKept page count (length vertices) (length edges) (length points)))
+      go (Judged.Good n) j = found n j (decided (roomKept page n (length vertices) (length edges) (length points)))
+      go (Judged.Refused number line) j = absurd (sheet-not-refused (sym e ∙ ap (λ r. r .page) (read-refused number line vertices edges points j)))
+
+  -- into tables with room for the page, an answer with a refusal is the page's own
+  pub refused-judged : (vertices : List ℤ) (edges : List ℕ) (points : List ℤ) (number line : ℕ)
+      → ((count : ℕ) → judgedPage page ≡ Judged.Good count → Means (roomKept page count (length vertices) (length edges) (length points)))
+      → readPage page vertices edges points .page ≡ Page.Refused number line → judgedPage page ≡ Judged.Refused number line
+  refused-judged vertices edges points number line room e = go (judgedPage page) refl
+    where
+      go : (j : Judged) → judgedPage page ≡ j → judgedPage page ≡ Judged.Refused number line
+      go (Judged.Good n) j = absurd (sheet-not-refused (sym (ap (λ r. r .page) (read-good n vertices edges points j (room n j))) ∙ e))
+      go (Judged.Refused n l) j =
+          let same : Page.Refused n l ≡ Page.Refused number line = sym (ap (λ r. r .page) (read-refused n l vertices edges points j)) ∙ e in
+          let a : n ≡ number = cc in
+          let b : l ≡ line = cc in
+          j ∙ λ i. Judged.Refused (a i) (b i)
+
+  -- a good page keeps the limits
+  pub good-limits : (count : ℕ) → GoodPage page count → Means (countsWithin (headVertices page) (headEdges page) (headZones page))
+  good-limits count g = g .0 0 (omega arith) .1 .1 .1 refl

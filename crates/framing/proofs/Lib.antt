@@ -1,4 +1,5 @@
 -- Laws of document 02, P1, a file a subject.
+pub mod AnswerTexts
 pub mod GoodLines
 pub mod Judging
 pub mod LineEnds
@@ -11,10 +12,10 @@ pub mod PageWords
 pub mod ReadDigits
 pub mod Signs
 pub mod Slices
+pub mod TablesRead
 pub mod TextDigits
 pub mod TextFrames
 pub mod TextPages
 pub mod TextTables
 pub mod Widths
 pub mod WrittenFrames
-pub mod AnswerTexts

@@ -42,11 +42,12 @@ returns : tie.Need-returns
 returns c = let n = c .before .before .put-numbered in
     let d = c .before .before .before .before .before .before .before in
     let b = d .before .before .before .before in
-    let s = b .before .before .before .before in
-    ( omega (arith, long s, b .put-bytes .ensures .0, d .put-decimal .ensures .0, n .ensures .0, numbered-long (32 ∷ []) (s .args .item))
-    , n .ensures .1
-    ∙ ap (λ t. over (numbered (32 ∷ []) (s .args .item)) t (d .put-decimal .result)) (d .put-decimal .ensures .1 ∙ ap (λ t. over (decimal (s .args .number)) t (b .put-bytes .result)) (b .put-bytes .ensures .1))
-    ∙ refused-written (s .args .number) (s .args .item) (s .args .text .now) (s .args .at) (b .put-bytes .result) (d .put-decimal .result) (omega (arith, long s)) (b .put-bytes .ensures .0) (d .put-decimal .ensures .0))
+    let s = b .before .before .before .before in (
+      omega (arith, long s, b .put-bytes .ensures .0, d .put-decimal .ensures .0, n .ensures .0, numbered-long (32 ∷ []) (s .args .item)),
+      n .ensures .1
+          ∙ ap (λ t. over (numbered (32 ∷ []) (s .args .item)) t (d .put-decimal .result)) (d .put-decimal .ensures .1 ∙ ap (λ t. over (decimal (s .args .number)) t (b .put-bytes .result)) (b .put-bytes .ensures .1))
+          ∙ refused-written (s .args .number) (s .args .item) (s .args .text .now) (s .args .at) (b .put-bytes .result) (d .put-decimal .result) (omega (arith, long s)) (b .put-bytes .ensures .0) (d .put-decimal .ensures .0),
+    )
 
 pub put-refusal-spec : {M : Type 1} → statement M
 put-refusal-spec =

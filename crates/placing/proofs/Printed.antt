@@ -1,0 +1,75 @@
+-- What is printed for a sheet and for a page, case by case; and that an index with room for any asks nothing more than the tables.
+use mathlib.Core.Path.{_≡_, refl, sym, ap, _∙_}
+use mathlib.Core.Bool.{true, false}
+use mathlib.Core.List.{List, _∷_}
+use Prim.Native.Nat.{ℕ, _+_, _/_, _<_, _≤_}
+use native.Mathlib.Omega.{arith}
+use borrow.Author.Tests.{lt-ltb, le-ltb, le-leb, lt-leb}
+use lib.IntN.{ℤ}
+use lib.ListN.{length}
+use Rattle.subdivision.specs.declared.Verdict.{Verdict}
+use Rattle.subdivision.specs.Formula.{Means}
+use Rattle.subdivision.specs.Lists.{put}
+use Rattle.subdivision.specs.Sheet.{Sheet}
+use Rattle.subdivision.specs.Refusals.{judged, limitRefusals, roomRefusal, ruleRefusals}
+use Rattle.subdivision.specs.Faults.{tableRefusals, openingRefusals}
+use Rattle.frames.specs.declared.Judged.{Judged}
+use Rattle.frames.specs.declared.Written.{Written}
+use Rattle.frames.specs.Pages.{judgedPage, pageSheet, pointWords}
+use Rattle.frames.specs.Placing.{maxPage, maxText, decimal, refusedText, answersText, sheetText, placedText, placePage}
+use Rattle.theory.proofs.Decide.{held}
+use Rattle.theory.proofs.Judgement.{passed-keeps, refused-first, passed-first}
+use Rattle.framing.proofs.AnswerTexts.{decimal-short, refused-long}
+
+-- with room for any index, opening judges the tables alone
+pub opens-by-tables : (s : Sheet) (words : ℕ) → 5121 ≤ words → judged (openingRefusals s words) ≡ judged (tableRefusals s)
+opens-by-tables s words h = go (judged (limitRefusals s)) refl
+  where
+    go : (v : Verdict) → judged (limitRefusals s) ≡ v → judged (openingRefusals s words) ≡ judged (tableRefusals s)
+    go Verdict.Passed e =
+        let counts = passed-keeps (limitRefusals s) e .0 in
+        let room : Means (roomRefusal s words .kept) = omega (arith, counts .1 .0 .1, counts .1 .1 .1) in
+        passed-first (limitRefusals s) (roomRefusal s words ∷ ruleRefusals s) e ∙ rw (held (roomRefusal s words .kept) room, judged) (sym (passed-first (limitRefusals s) (ruleRefusals s) e))
+    go (Verdict.Refused number item) e =
+        refused-first (limitRefusals s) (roomRefusal s words ∷ ruleRefusals s) number item e ∙ sym (refused-first (limitRefusals s) (ruleRefusals s) number item e)
+
+-- a refused sheet is its refusal's line
+pub sheet-refused : (s : Sheet) (points : List ℤ) (number item : ℕ) → judged (tableRefusals s) ≡ Verdict.Refused number item → sheetText s points ≡ refusedText number item
+unfolding sheetText
+sheet-refused s points number item e = rw (e, sheetText)
+
+-- an accepted sheet is a line for each point
+pub sheet-passed : (s : Sheet) (points : List ℤ) → judged (tableRefusals s) ≡ Verdict.Passed → sheetText s points ≡ answersText s points (length points / 2)
+unfolding sheetText
+sheet-passed s points e = rw (e, sheetText)
+
+-- the line of a refusal is short
+pub refused-short : (number item : ℕ) → number < 4294967296 → item < 18446744073709551616 → length (refusedText number item) ≤ 60
+refused-short number item n i =
+    omega (arith, refused-long number item, decimal-short number 9 (omega arith), decimal-short item 19 (omega arith))
+
+module _ (page : List ℕ) where
+  -- a page that is too long
+  pub placed-long : maxPage < length page → placedText page ≡ refusedText 34 0
+  unfolding placedText
+  placed-long h = rw (lt-ltb maxPage (length page) h, placedText)
+
+  -- a refused page is its refusal's line
+  pub placed-refused : (number line : ℕ) → length page ≤ maxPage → judgedPage page ≡ Judged.Refused number line → placedText page ≡ refusedText number line
+  unfolding placedText
+  placed-refused number line h e = rw (le-ltb maxPage (length page) h, placedText) (rw e)
+
+  -- a good page is its sheet with its points
+  pub placed-good : (count : ℕ) → length page ≤ maxPage → judgedPage page ≡ Judged.Good count → placedText page ≡ sheetText (pageSheet page) (pointWords page count)
+  unfolding placedText
+  placed-good count h e = rw (le-ltb maxPage (length page) h, placedText) (rw e)
+
+  -- a lent text with room
+  pub places : (text : List ℕ) → maxText ≤ length text → placePage page text ≡ record { written = Written.Text (length (placedText page)); text = put (placedText page) text }
+  unfolding placePage
+  places text h = rw (le-leb maxText (length text) h, placePage)
+
+  -- a lent text without
+  pub places-short : (text : List ℕ) → length text < maxText → placePage page text ≡ record { written = Written.Refused 33; text = text }
+  unfolding placePage
+  places-short text h = rw (lt-leb maxText (length text) h, placePage)
