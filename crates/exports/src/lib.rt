@@ -1,11 +1,18 @@
-// The C ABI: the three calls for tests and for programs in other languages. A `&[T]` is a pointer and
+// The C ABI: the calls for tests and for programs in other languages. A `&[T]` is a pointer and
 // then a length. What a caller owes (valid pointers, no overlap) no proof covers.
+use frames::Page;
+use frames::Written;
+use hexadecimal::signs::word_of;
 use subdivision::Answer;
 use subdivision::Verdict;
 ghost use mathlib.Core.Path.{_≡_};
 ghost use Rattle.subdivision.specs.Sheet.{sheetOf};
 ghost use Rattle.subdivision.specs.Answers.{answerValues, foundValues, verdictValues};
 ghost use Rattle.subdivision.specs.Calls.{opening, reading, searching};
+ghost use Rattle.frames.specs.Answers.{pageValues, writtenValues};
+ghost use Rattle.frames.specs.Pages.{readPage};
+ghost use Rattle.frames.specs.Texts.{writePage};
+ghost use Rattle.frames.specs.Placing.{placePage};
 
 // Opens a sheet: `out` is the refusal's number and the item that it names, 0 0 where the sheet is
 // opened; then the first 3n + m + 1 words of `index` are its index.
@@ -77,5 +84,74 @@ pub extern "C" fn tw_search(
         Answer::Edge(e) => *out = [2, e, 0, found.examined, found.probes],
         Answer::Zone(z) => *out = [3, z, 0, found.examined, found.probes],
         Answer::Refused(number, item) => *out = [0, number, item, found.examined, found.probes],
+    }
+}
+
+// Reads a page of frames: `out` is the refusal's number and the line that it names, 0 0 where the page is good; then W and E as
+// their words, V, m, n and the number of points. The words read are written to the fronts of the tables.
+#[no_mangle]
+pub extern "C" fn tw_read_page(
+    page: &[u8],
+    vertices: &mut [i32],
+    edges: &mut [u32],
+    points: &mut [i32],
+    out: &mut [u64; 8],
+)
+    ensures page { λ _. ⌜ now (out .exit) ≡ pageValues (readPage (now (page .entry)) (now (vertices .entry)) (now (edges .entry)) (now (points .entry)) .page) ⌝ }
+    ensures vertices { λ _. ⌜ now (vertices .exit) ≡ readPage (now (page .entry)) (now (vertices .entry)) (now (edges .entry)) (now (points .entry)) .vertices ⌝ }
+    ensures edges { λ _. ⌜ now (edges .exit) ≡ readPage (now (page .entry)) (now (vertices .entry)) (now (edges .entry)) (now (points .entry)) .edges ⌝ }
+    ensures points { λ _. ⌜ now (points .exit) ≡ readPage (now (page .entry)) (now (vertices .entry)) (now (edges .entry)) (now (points .entry)) .points ⌝ }
+{
+    match pages::read_page(page, vertices, edges, points) {
+        Page::Refused(number, line) => *out = [number as u64, line as u64, 0, 0, 0, 0, 0, 0],
+        Page::Sheet(head, count) => {
+            let west = word_of(head.west) as u64;
+            let east = word_of(head.east) as u64;
+            *out = [
+                0,
+                0,
+                west,
+                east,
+                head.vertices as u64,
+                head.edges as u64,
+                head.zones as u64,
+                count as u64,
+            ]
+        }
+    }
+}
+
+// Writes a sheet with its points as a page of frames to the front of `text`: `out` is the refusal's number, 0 where the page is
+// written, and the number of bytes.
+#[no_mangle]
+pub extern "C" fn tw_write_page(
+    west: i32,
+    east: i32,
+    vertices: &[i32],
+    edges: &[u32],
+    zones: u32,
+    points: &[i32],
+    text: &mut [u8],
+    out: &mut [u64; 2],
+)
+    ensures written { λ _. ⌜ now (out .exit) ≡ writtenValues (writePage (sheetOf west east (now (vertices .entry)) (now (edges .entry)) zones) (now (points .entry)) (now (text .entry)) .written) ⌝ }
+    ensures text { λ _. ⌜ now (text .exit) ≡ writePage (sheetOf west east (now (vertices .entry)) (now (edges .entry)) zones) (now (points .entry)) (now (text .entry)) .text ⌝ }
+{
+    match writer::write_page(west, east, vertices, edges, zones, points, text) {
+        Written::Refused(number) => *out = [number as u64, 0],
+        Written::Text(count) => *out = [0, count as u64],
+    }
+}
+
+// Writes what the program prints for a page of frames to the front of `text`: `out` is the refusal's number, 0 where there is none,
+// and the number of bytes.
+#[no_mangle]
+pub extern "C" fn tw_place_page(page: &[u8], text: &mut [u8], out: &mut [u64; 2])
+    ensures written { λ _. ⌜ now (out .exit) ≡ writtenValues (placePage (now (page .entry)) (now (text .entry)) .written) ⌝ }
+    ensures text { λ _. ⌜ now (text .exit) ≡ placePage (now (page .entry)) (now (text .entry)) .text ⌝ }
+{
+    match placing::place_page(page, text) {
+        Written::Refused(number) => *out = [number as u64, 0],
+        Written::Text(count) => *out = [0, count as u64],
     }
 }

@@ -2,13 +2,16 @@
 use mathlib.Core.Path.{_≡_, refl, sym, ap, _∙_}
 use mathlib.Core.Bool.{true, false}
 use mathlib.Core.List.{List, _∷_}
+use mathlib.Core.Logic.{⊎-elim}
 use Prim.Native.Nat.{ℕ, _+_, _/_, _<_, _≤_}
 use native.Mathlib.Omega.{arith}
 use borrow.Author.Tests.{lt-ltb, le-ltb, le-leb, lt-leb}
 use lib.IntN.{ℤ}
-use lib.ListN.{length}
+use lib.ListN.{length, drop, length-append}
+use lib.Seq.{length-take-le}
+use Rattle.io.specs.Counts.{Counts}
 use Rattle.subdivision.specs.declared.Verdict.{Verdict}
-use Rattle.subdivision.specs.Formula.{Means}
+use Rattle.subdivision.specs.Formula.{isAtMost, Means}
 use Rattle.subdivision.specs.Lists.{put}
 use Rattle.subdivision.specs.Sheet.{Sheet}
 use Rattle.subdivision.specs.Refusals.{judged, limitRefusals, roomRefusal, ruleRefusals}
@@ -17,7 +20,7 @@ use Rattle.frames.specs.declared.Judged.{Judged}
 use Rattle.frames.specs.declared.Written.{Written}
 use Rattle.frames.specs.Pages.{judgedPage, pageSheet, pointWords}
 use Rattle.frames.specs.Placing.{maxPage, maxText, decimal, refusedText, answersText, sheetText, placedText, placePage}
-use Rattle.theory.proofs.Decide.{held}
+use Rattle.theory.proofs.Decide.{decided, held}
 use Rattle.theory.proofs.Judgement.{passed-keeps, refused-first, passed-first}
 use Rattle.framing.proofs.AnswerTexts.{decimal-short, refused-long}
 
@@ -73,3 +76,21 @@ module _ (page : List ℕ) where
   pub places-short : (text : List ℕ) → length text < maxText → placePage page text ≡ record { written = Written.Refused 33; text = text }
   unfolding placePage
   places-short text h = rw (lt-leb maxText (length text) h, placePage)
+
+  -- what is written is a part of the text
+  pub printed-counts : (text : List ℕ) (count : ℕ) → placePage page text .written ≡ Written.Text count → Counts count (placePage page text .text)
+  printed-counts text count e = ⊎-elim with-room (λ short. absurd (without short)) (decided (isAtMost maxText (length text)))
+    where
+      with-room : maxText ≤ length text → Counts count (placePage page text .text)
+      with-room h =
+          let so = places text h in
+          let same : Written.Text (length (placedText page)) ≡ Written.Text count = sym (ap (λ r. r .written) so) ∙ e in
+          let n : length (placedText page) ≡ count = cc in
+          let long : count ≤ length (placePage page text .text) = omega (arith, n, ap length (ap (λ r. r .text) so), length-append (placedText page) (drop (length (placedText page)) text)) in
+          (long, sym (length-take-le count (placePage page text .text) long))
+
+      without : (maxText ≤ length text → ⊥) → ⊥
+      without short =
+          let so : Written.Refused 33 ≡ Written.Text count = sym (ap (λ r. r .written) (places-short text (omega (arith, short)))) ∙ e in
+          let never : _≡_ {A = ℕ} 0 1 = cc in
+          omega arith

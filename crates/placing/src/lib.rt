@@ -11,10 +11,12 @@ use subdivision::MAX_EDGES;
 use subdivision::MAX_VERTICES;
 use subdivision::MAX_ZONES;
 ghost use mathlib.Core.Path.{_≡_};
-ghost use Prim.Native.Nat.{_*_, _≤_};
+ghost use Prim.Native.Nat.{ℕ, _*_, _≤_};
 ghost use lib.ListN.{length, take};
+ghost use Rattle.io.specs.Counts.{Counts};
 ghost use Rattle.subdivision.specs.Lists.{put};
 ghost use Rattle.subdivision.specs.Sheet.{sheetOf};
+ghost use Rattle.frames.specs.declared.Written.{Written};
 ghost use Rattle.frames.specs.Placing.{maxPage, maxText, sheetText, placedText, placePage};
 
 mod sheet;
@@ -30,6 +32,7 @@ const MAX_INDEX: usize = 3 * MAX_ZONES + MAX_EDGES + 1;
 pub fn place_page(page: &[u8], text: &mut [u8]) -> Written
     ensures written { λ r. ⌜ r ≡ placePage (now (page .entry)) (now (text .entry)) .written ⌝ }
     ensures text { λ _. ⌜ now (text .exit) ≡ placePage (now (page .entry)) (now (text .entry)) .text ⌝ }
+    ensures counted { λ r. ⌜ ((count : ℕ) → r ≡ Written.Text count → Counts count (now (text .exit))) ⌝ }
 {
     if text.len() < MAX_TEXT {
         return Written::Refused(33);

@@ -38,7 +38,8 @@ put-bytes-requires : tie.Need-put-bytes-requires
 put-bytes-requires c κs = omega (arith, long (c .before .before .before))
 
 put-decimal-requires : tie.Need-put-decimal-requires
-put-decimal-requires c κs = let b = c .before .before .before in
+put-decimal-requires c κs =
+    let b = c .before .before .before in
     omega (arith, long (b .before .before .before .before), b .put-bytes .ensures .0)
 
 slice-write-text : tie.Need-slice-write-text
@@ -48,11 +49,13 @@ add-result : tie.Need-add-result
 add-result c = record { fits = omega (arith, within c) }
 
 same-length : tie.Need-same-length
-same-length c = let s = c .before .before .before .before .before .before .before .before .before .before in
+same-length c =
+    let s = c .before .before .before .before .before .before .before .before .before .before in
     ap length (whole c) ∙ length-over (numbered (s .args .word .now) (s .args .n)) (s .args .text .now) (s .args .at) (omega arith)
 
 returns : tie.Need-returns
-returns c = let b = c .before .before .before .before .before .before in
+returns c =
+    let b = c .before .before .before .before .before .before in
     (omega (arith, long (b .before .before .before .before), b .put-bytes .ensures .0, c .before .before .put-decimal .ensures .0), whole c)
 
 pub put-numbered-spec : {M : Type 1} → statement M

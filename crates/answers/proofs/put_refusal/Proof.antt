@@ -23,14 +23,16 @@ put-bytes-requires : tie.Need-put-bytes-requires
 put-bytes-requires c κs = omega (arith, long (c .before .before .before))
 
 put-decimal-requires : tie.Need-put-decimal-requires
-put-decimal-requires c κs = let b = c .before .before .before in
+put-decimal-requires c κs =
+    let b = c .before .before .before in
     omega (arith, long (b .before .before .before .before), b .put-bytes .ensures .0)
 
 slice-aggregate-put-numbered : tie.Need-slice-aggregate-put-numbered
 slice-aggregate-put-numbered c = search needs
 
 put-numbered-requires : tie.Need-put-numbered-requires
-put-numbered-requires c κs = let d = c .before .before .before .before in
+put-numbered-requires c κs =
+    let d = c .before .before .before .before in
     let b = d .before .before .before .before in
     let s = b .before .before .before .before in
     omega (arith, long s, b .put-bytes .ensures .0, d .put-decimal .ensures .0, numbered-long (32 ∷ []) (s .args .item))
@@ -39,7 +41,8 @@ same-length : tie.Need-same-length
 same-length c = search needs
 
 returns : tie.Need-returns
-returns c = let n = c .before .before .put-numbered in
+returns c =
+    let n = c .before .before .put-numbered in
     let d = c .before .before .before .before .before .before .before in
     let b = d .before .before .before .before in
     let s = b .before .before .before .before in (

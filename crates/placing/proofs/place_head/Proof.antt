@@ -30,15 +30,18 @@ mul-p : tie.Need-mul-p
 mul-p c = search needs
 
 slice-aggregate-place-sheet : tie.Need-slice-aggregate-place-sheet
-slice-aggregate-place-sheet c = let s = c .before .before .before .before .before .before in
+slice-aggregate-place-sheet c =
+    let s = c .before .before .before .before .before .before in
     sym (length-take-le _ (s .args .vertices .now) (omega arith))
 
 slice-aggregate-place-sheet-2 : tie.Need-slice-aggregate-place-sheet-2
-slice-aggregate-place-sheet-2 c = let s = c .before .before .before .before .before .before .before in
+slice-aggregate-place-sheet-2 c =
+    let s = c .before .before .before .before .before .before .before in
     sym (length-take-le _ (s .args .edges .now) (omega arith))
 
 slice-aggregate-place-sheet-3 : tie.Need-slice-aggregate-place-sheet-3
-slice-aggregate-place-sheet-3 c = let s = c .before .before .before .before .before .before .before .before in
+slice-aggregate-place-sheet-3 c =
+    let s = c .before .before .before .before .before .before .before .before in
     sym (length-take-le _ (s .args .points .now) (omega arith))
 
 place-sheet-requires : tie.Need-place-sheet-requires

@@ -1,23 +1,44 @@
 -- A text without room is refused; a page that is too long is one line; any other is read and placed.
-use mathlib.Core.Path.{_≡_, sym, ap, _∙_}
+use mathlib.Core.Path.{_≡_, sym, ap, subst, _∙_}
+use mathlib.Core.List.{List}
+use Prim.Native.Nat.{ℕ}
 use native.Mathlib.Nat.{zero-add}
 use native.Mathlib.Omega.{arith}
 use borrow.Author.Needs.{needs}
 use lib.Dec.{lit<}
 use lib.ListN.{length}
+use Rattle.io.specs.Counts.{Counts}
 use Rattle.subdivision.specs.Lists.{put}
 use Rattle.frames.specs.declared.Written.{Written}
-use Rattle.frames.specs.Placing.{refusedText, placedText}
+use Rattle.frames.specs.Texts.{PageWritten}
+use Rattle.frames.specs.Placing.{refusedText, placePage}
 use Rattle.theory.proofs.Written.{over-front}
-use Rattle.placing.proofs.Printed.{refused-short, placed-long, places, places-short}
+use Rattle.placing.proofs.Printed.{refused-short, placed-long, places, places-short, printed-counts}
 use borrow.Author.Needs.{needs}
 use Rattle.placing.proofs.place_page.Statement.{statement}
 use Rattle.placing.proofs.place_page.Tie as tie
 
+-- all that is ensured of an answer and a text
+abbrev Ensured : tie.Start → Written → List ℕ → Type 0
+Ensured s r text =
+    (r ≡ placePage (s .args .page .now) (s .args .text .now) .written) × ((text ≡ placePage (s .args .page .now) (s .args .text .now) .text)
+    × ((count : ℕ) → r ≡ Written.Text count → Counts count text))
+
+-- it follows from the definition
+ensured : (s : tie.Start) (r : Written) (text : List ℕ) → _≡_ {A = PageWritten} (record { written = r; text = text }) (placePage (s .args .page .now) (s .args .text .now)) → Ensured s r text
+ensured s r text e = (
+  ap (λ q. q .written) e,
+  (
+    ap (λ q. q .text) e,
+    λ count f. subst (λ q. Counts count q) (ap (λ q. q .text) (sym e)) (printed-counts (s .args .page .now) (s .args .text .now) count (ap (λ q. q .written) (sym e) ∙ f)),
+  ),
+)
+
 returns : tie.Need-returns
-returns c = let s = c .before .before .before in
+returns c =
+    let s = c .before .before .before in
     let e = sym (places-short (s .args .page .now) (s .args .text .now) (omega arith)) in
-    (ap (λ r. r .written) e, ap (λ r. r .text) e)
+    ensured s (Written.Refused 33) (s .args .text .now) e
 
 put-refusal-requires : tie.Need-put-refusal-requires
 put-refusal-requires c κs = omega (arith, refused-short 34 0 (lit< tt) (lit< tt))
@@ -26,13 +47,14 @@ same-length : tie.Need-same-length
 same-length c = search needs
 
 returns-2 : tie.Need-returns-2
-returns-2 c = let s = c .before .before .before .before .before .before .before .before in
+returns-2 c =
+    let s = c .before .before .before .before .before .before .before .before in
     let w = c .before .before .put-refusal .ensures in
     let line = sym (placed-long (s .args .page .now) (omega arith)) in
-    let e = sym (places (s .args .page .now) (s .args .text .now) (omega arith)) in (
-      ap Written.Text (w .0 ∙ zero-add (length (refusedText 34 0)) ∙ ap length line) ∙ ap (λ r. r .written) e,
-      w .1 ∙ over-front (refusedText 34 0) (s .args .text .now) ∙ ap (λ t. put t (s .args .text .now)) line ∙ ap (λ r. r .text) e,
-    )
+    let e = sym (places (s .args .page .now) (s .args .text .now) (omega arith)) in
+    let long = w .0 ∙ zero-add (length (refusedText 34 0)) ∙ ap length line in
+    let text = w .1 ∙ over-front (refusedText 34 0) (s .args .text .now) ∙ ap (λ t. put t (s .args .text .now)) line in
+    ensured s (Written.Text (c .before .before .put-refusal .result)) (c .before .before .put-refusal .last .1 .1 .0) ((λ i. record { written = Written.Text (long i); text = text i }) ∙ e)
 
 slice-aggregate-place-read : tie.Need-slice-aggregate-place-read
 slice-aggregate-place-read c = search needs
@@ -53,10 +75,12 @@ same-length-2 : tie.Need-same-length-2
 same-length-2 c = search needs
 
 returns-3 : tie.Need-returns-3
-returns-3 c = let w = c .before .before .before .before .before .before .place-read .ensures in
+returns-3 c =
+    let w = c .before .before .before .before .before .before .place-read .ensures in
     let s = c .before .before .before .before .before .before .before .before .before .before .before .before .before .before .before .before in
     let e = sym (places (s .args .page .now) (s .args .text .now) (omega arith)) in
-    (ap Written.Text (w .0) ∙ ap (λ r. r .written) e, w .1 ∙ ap (λ r. r .text) e)
+    let r = c .before .before .before .before .before .before .place-read in
+    ensured s (Written.Text (r .result)) (r .last .1 .1 .1 .1 .1 .0) ((λ i. record { written = Written.Text (w .0 i); text = w .1 i }) ∙ e)
 
 pub place-page-spec : {M : Type 1} → statement M
 place-page-spec =

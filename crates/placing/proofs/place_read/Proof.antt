@@ -51,7 +51,8 @@ enum-known-number : tie.Need-enum-known-number
 enum-known-number c = search needs
 
 put-refusal-requires : tie.Need-put-refusal-requires
-put-refusal-requires c κs = let r = c .before .before .number .given .0 in
+put-refusal-requires c κs =
+    let r = c .before .before .number .given .0 in
     let k = c .before .known-told .given in
     omega (arith, refused-short (r .0) (r .1 .0) (k .0 .1) (k .1 .0 .1))
 
@@ -59,7 +60,8 @@ enum-known-head : tie.Need-enum-known-head
 enum-known-head c = search needs
 
 place-head-requires : tie.Need-place-head-requires
-place-head-requires c κs = let p = c .before .before .before .before .before .before .before .before .before .before .before .before in
+place-head-requires c κs =
+    let p = c .before .before .before .before .before .before .before .before .before .before .before .before in
     let s = p .before .before .before .before .before .before .before .before in
     let n = c .before .before .before .before .before .before .head .given in
     let r = read-sheet (s .args .page .now) (s .args .vertices .now) (s .args .edges .now) (s .args .points .now) (n .0 .0) (n .0 .1 .0) (sym (p .read-page .ensures .0) ∙ n .1) in (
@@ -80,7 +82,8 @@ same-length-4 : tie.Need-same-length-4
 same-length-4 c = search needs
 
 returns : tie.Need-returns
-returns c = let p = c .before .before .before .before .before .before .before .before .before .before .before in
+returns c =
+    let p = c .before .before .before .before .before .before .before .before .before .before .before in
     let s = p .before .before .before .before .before .before .before .before in
     let n = c .before .before .before .before .before .number .given in
     let w = c .before .before .put-refusal .ensures in

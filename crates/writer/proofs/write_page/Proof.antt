@@ -100,16 +100,19 @@ counts-kept-requires : tie.Need-counts-kept-requires
 counts-kept-requires c κs = search needs
 
 returns : tie.Need-returns
-returns c = let k = c .before in
+returns c =
+    let k = c .before in
     let s = k .before .before .before in
     refusing s 1 (refused-1 (tables s) (s .args .points .now) (s .args .text .now) (λ m. denies (countsKept (tables s)) (sym (k .counts-kept .ensures) ∙ not-true (k .counts-kept .result) (c .if1 .taken)) (m .0)))
 
 returns-2 : tie.Need-returns-2
-returns-2 c = let s = c .before .before .before .before .before in
+returns-2 c =
+    let s = c .before .before .before .before .before in
     refusing s 1 (refused-1 (tables s) (s .args .points .now) (s .args .text .now) (λ m. c .if2 .taken (m .1)))
 
 returns-3 : tie.Need-returns-3
-returns-3 c = let s = c .before .before .before .before .before .before in
+returns-3 c =
+    let s = c .before .before .before .before .before .before in
     refusing s 33 (refused-33 (tables s) (s .args .points .now) (s .args .text .now) (kept (c .before)) (λ r. omega (arith, r, room s)))
 
 mul-if4 : tie.Need-mul-if4
@@ -119,19 +122,24 @@ sub-if4 : tie.Need-sub-if4
 sub-if4 c = search needs
 
 mul-if4-2 : tie.Need-mul-if4-2
-mul-if4-2 c = let k = kept (c .before) in record { fits = omega (arith, k .0 .1 .0 .0) }
+mul-if4-2 c =
+    let k = kept (c .before) in record { fits = omega (arith, k .0 .1 .0 .0) }
 
 add-if4 : tie.Need-add-if4
-add-if4 c = let k = kept (c .before) in record { fits = omega (arith, k .0 .1 .0 .0) }
+add-if4 c =
+    let k = kept (c .before) in record { fits = omega (arith, k .0 .1 .0 .0) }
 
 mul-if4-3 : tie.Need-mul-if4-3
-mul-if4-3 c = let k = kept (c .before) in record { fits = omega (arith, k .0 .1 .0 .1) }
+mul-if4-3 c =
+    let k = kept (c .before) in record { fits = omega (arith, k .0 .1 .0 .1) }
 
 add-if4-2 : tie.Need-add-if4-2
-add-if4-2 c = let k = kept (c .before) in record { fits = omega (arith, k .0 .1 .0 .0, k .0 .1 .0 .1) }
+add-if4-2 c =
+    let k = kept (c .before) in record { fits = omega (arith, k .0 .1 .0 .0, k .0 .1 .0 .1) }
 
 returns-4 : tie.Need-returns-4
-returns-4 c = let s = c .before .before .before .before .before .before .before in
+returns-4 c =
+    let s = c .before .before .before .before .before .before .before in
     refusing s 33 (refused-33 (tables s) (s .args .points .now) (s .args .text .now) (kept (c .before .before)) (λ r. omega (arith, r, room s)))
 
 put-page-requires : tie.Need-put-page-requires
@@ -143,7 +151,8 @@ same-length : tie.Need-same-length
 same-length c = search needs
 
 returns-5 : tie.Need-returns-5
-returns-5 c = let w = c .before .before .put-page in
+returns-5 c =
+    let w = c .before .before .put-page in
     let s = c .before .before .before .before .before .before .before .before .before .before .before in
     let k = kept (c .before .before .before .before .before .before) in
     let long = w .ensures .0 ∙ ap (λ q. length (pageText q (s .args .points .now))) (same s) in

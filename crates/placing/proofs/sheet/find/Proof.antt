@@ -26,7 +26,8 @@ search-point-requires : tie.Need-search-point-requires
 search-point-requires c κs = search needs
 
 returns : tie.Need-returns
-returns c = let s = c .before .before .before .before .before in
+returns c =
+    let s = c .before .before .before .before .before in
     let f = s .fits in
     ap (λ r. r .answer) (c .before .search-point .ensures .0)
     ∙ (λ i. searched s (toZ-ofZ (f .west) i) (toZ-ofZ (f .east) i) (toZ-ofZ (f .x) i) (toZ-ofZ (f .y) i))

@@ -64,11 +64,13 @@ shared-slice-copy-out-y : tie.Need-shared-slice-copy-out-y Inv-loop μ-loop
 shared-slice-copy-out-y c = search needs
 
 find-requires : tie.Need-find-requires Inv-loop μ-loop
-find-requires c κs = let s = c .before .before .before .before .before .before .before in
+find-requires c κs =
+    let s = c .before .before .before .before .before .before .before in
     subst (λ q. Accepted q × HoldsIndex q (s .args .index .now)) (sym (same s)) (s .pre .0)
 
 put-answer-requires : tie.Need-put-answer-requires Inv-loop μ-loop
-put-answer-requires c κs = let l = c .before .before .before .before .before .loop in
+put-answer-requires c κs =
+    let l = c .before .before .before .before .before .loop in
     let s = c .before .before .before .before .before .before .before .before .before in
     let long = ap length (l .inv .1 .1 .1) ∙ length-put (answersText (stored s) (s .args .points .now) (l .i)) (s .args .text .now) (omega (arith, l .inv .1 .0, l .inv .1 .1 .0)) in
     omega (arith, long, l .inv .1 .1 .0)
@@ -80,7 +82,8 @@ loop-less : tie.Need-loop-less Inv-loop μ-loop
 loop-less c = search needs
 
 loop-again : tie.Need-loop-again Inv-loop μ-loop
-loop-again c = let f = c .before .before .before .before in
+loop-again c =
+    let f = c .before .before .before .before in
     let l = f .before .before .before .before .loop in
     let s = f .before .before .before .before .before .before .before .before in
     let p = c .before .before .put-answer in
@@ -102,12 +105,14 @@ loop-again c = let f = c .before .before .before .before in
     )
 
 same-length : tie.Need-same-length Inv-loop μ-loop
-same-length c = let l = c .before .loop in
+same-length c =
+    let l = c .before .loop in
     let s = c .before .before .before .before .before in
     ap length (l .inv .1 .1 .1) ∙ length-put (answersText (stored s) (s .args .points .now) (l .i)) (s .args .text .now) (omega (arith, l .inv .1 .0, l .inv .1 .1 .0))
 
 returns : tie.Need-returns Inv-loop μ-loop
-returns c = let l = c .before .loop in
+returns c =
+    let l = c .before .loop in
     let s = c .before .before .before .before .before in
     let all : l .i ≡ length (s .args .points .now) / 2 = omega arith in (
       l .inv .1 .0 ∙ (λ i. length (answersText (same s i) (s .args .points .now) (all i))),

@@ -47,7 +47,8 @@ cast-put-refusal : tie.Need-cast-put-refusal
 cast-put-refusal c = search needs
 
 put-refusal-requires : tie.Need-put-refusal-requires
-put-refusal-requires c κs = let r = c .before .before .number .given .0 in
+put-refusal-requires c κs =
+    let r = c .before .before .number .given .0 in
     let k = c .before .known-told .given in
     omega (arith, refused-short (r .0) (r .1 .0) (k .0 .1) (omega (arith, k .1 .0 .1)))
 
@@ -55,7 +56,8 @@ enum-told : tie.Need-enum-told
 enum-told c = search needs
 
 place-points-requires : tie.Need-place-points-requires
-place-points-requires c κs = let o = c .before .before .before .before .before .before in
+place-points-requires c κs =
+    let o = c .before .before .before .before .before .before in
     let e = c .before .before .enum-told .given .1 in
     ((o .open-sheet .ensures .1 .1 .0 .0 e .0, o .open-sheet .ensures .1 .1 .1 .1 .1 .1 e), omega arith)
 
@@ -66,7 +68,8 @@ same-length-2 : tie.Need-same-length-2
 same-length-2 c = search needs
 
 returns : tie.Need-returns
-returns c = let o = c .before .before .before .before .before .before .before .before .before in
+returns c =
+    let o = c .before .before .before .before .before .before .before .before .before in
     let s = o .before .before .before .before .before in
     let w = c .before .before .put-refusal .ensures in
     let r = c .before .before .before .before .before .number .given .0 in
@@ -82,7 +85,8 @@ same-length-4 : tie.Need-same-length-4
 same-length-4 c = search needs
 
 returns-2 : tie.Need-returns-2
-returns-2 c = let o = c .before .before .before .before .before .before .before .before .before in
+returns-2 c =
+    let o = c .before .before .before .before .before .before .before .before .before in
     let s = o .before .before .before .before .before in
     let w = c .before .before .place-points .ensures in
     let accepted = o .open-sheet .ensures .1 .1 .0 .0 (c .before .before .before .before .before .enum-told .given .1) .0 in
