@@ -151,7 +151,7 @@ pub extern "C" fn tw_place_page(page: &[u8], text: &mut [u8], out: &mut [u64; 2]
     ensures text { λ _. ⌜ now (text .exit) ≡ placePage (now (page .entry)) (now (text .entry)) .text ⌝ }
 {
     match placing::place_page(page, text) {
-        Written::Refused(number) => *out = [number as u64, 0],
-        Written::Text(count) => *out = [0, count as u64],
+        Written::Refused(refusal) => *out = [refusal as u64, 0],
+        Written::Text(length) => *out = [0, length as u64],
     }
 }

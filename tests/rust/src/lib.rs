@@ -3,10 +3,13 @@
 pub mod damage;
 pub mod drawings;
 pub mod faults;
+pub mod pages;
 pub mod paper;
 pub mod plain;
 pub mod sheets;
+pub mod texts;
 
+use pages::{Lent, Page};
 use sheets::Sheet;
 
 /// The functions as they are exported.
@@ -36,6 +39,15 @@ pub mod exported {
             west: i32, east: i32, vertices: *const i32, vertices_len: usize, edges: *const u32, edges_len: usize, zones: u32,
             index: *const u32, index_len: usize, x: i32, y: i32, trail: *mut u32, trail_len: usize, out: *mut u32,
         );
+        pub fn tw_read_page(
+            page: *const u8, page_len: usize, vertices: *mut i32, vertices_len: usize, edges: *mut u32, edges_len: usize,
+            points: *mut i32, points_len: usize, out: *mut u64,
+        );
+        pub fn tw_write_page(
+            west: i32, east: i32, vertices: *const i32, vertices_len: usize, edges: *const u32, edges_len: usize, zones: u32,
+            points: *const i32, points_len: usize, text: *mut u8, text_len: usize, out: *mut u64,
+        );
+        pub fn tw_place_page(page: *const u8, page_len: usize, text: *mut u8, text_len: usize, out: *mut u64);
     }
 }
 
@@ -101,6 +113,41 @@ pub fn search(s: &Sheet, index: &[u32], x: i32, y: i32, trail: &mut [u32]) -> [u
     out
 }
 
+/// Reads a page into lent tables: the refusal's number and line, 0 0 for a good page, then the two margins as words, V, m, n and the
+/// number of points.
+pub fn read_page(page: &[u8], lent: &mut Lent) -> [u64; 8] {
+    let mut out = [u64::MAX; 8];
+    let Lent { vertices: v, edges: e, points: p } = lent;
+    unsafe {
+        exported::tw_read_page(
+            page.as_ptr(), page.len(), v.as_mut_ptr(), v.len(), e.as_mut_ptr(), e.len(),
+            p.as_mut_ptr(), p.len(), out.as_mut_ptr(),
+        )
+    };
+    out
+}
+
+/// Writes a sheet with its points into lent text: the refusal's number and the number of bytes written.
+pub fn write_page(page: &Page, text: &mut [u8]) -> [u64; 2] {
+    let mut out = [u64::MAX; 2];
+    let (s, p) = (&page.sheet, &page.points);
+    let (v, e) = (&s.vertices, &s.edges);
+    unsafe {
+        exported::tw_write_page(
+            s.west, s.east, v.as_ptr(), v.len(), e.as_ptr(), e.len(), s.zones,
+            p.as_ptr(), p.len(), text.as_mut_ptr(), text.len(), out.as_mut_ptr(),
+        )
+    };
+    out
+}
+
+/// Places the points of a page into lent text: the refusal's number and the number of bytes written.
+pub fn place_page(page: &[u8], text: &mut [u8]) -> [u64; 2] {
+    let mut out = [u64::MAX; 2];
+    unsafe { exported::tw_place_page(page.as_ptr(), page.len(), text.as_mut_ptr(), text.len(), out.as_mut_ptr()) };
+    out
+}
+
 /// A small generator; the seed is `SEED` where that is set, and is printed.
 pub struct Random(u64);
 
@@ -139,9 +186,34 @@ pub fn lent(words: usize) -> Vec<u32> {
     (0..words as u32).map(|w| w.wrapping_mul(2_654_435_761) ^ 0xA5A5_A5A5).collect()
 }
 
+/// Bytes to lend for text, none of which stands in any text.
+pub fn lent_text(bytes: usize) -> Vec<u8> {
+    lent(bytes).iter().map(|word| (word >> 24) as u8 | 0x80).collect()
+}
+
 /// How many calls a random test makes: `CALLS` where that is set.
 pub fn calls(usual: usize) -> usize {
     std::env::var("CALLS").ok().and_then(|s| s.parse().ok()).unwrap_or(usual)
+}
+
+/// How often each of some cases came.
+pub struct Tally(Vec<(String, usize)>);
+
+impl Tally {
+    /// None of these cases came yet.
+    pub fn new(cases: Vec<String>) -> Self {
+        Tally(cases.into_iter().map(|case| (case, 0)).collect())
+    }
+
+    /// Counts a case, which has to be one of those named at first.
+    pub fn count(&mut self, case: &str) {
+        self.0.iter_mut().find(|c| c.0 == case).unwrap_or_else(|| panic!("{case} is no case")).1 += 1;
+    }
+
+    /// Prints how often each case came, and fails where one came fewer than 50 times.
+    pub fn enough(&self) {
+        enough(&self.0.iter().map(|(case, count)| (&case[..], *count)).collect::<Vec<_>>());
+    }
 }
 
 /// Prints how often each case came, and fails where one came fewer than 50 times.

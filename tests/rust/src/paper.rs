@@ -342,10 +342,15 @@ fn overhead((edges, half): &(Vec<Edge>, i128), line: &[u32], x: i32, y: i32) -> 
 
 /// The plain reading: refusals 1, 2, 4 to 13, 20; else a vertex if the point is one, else an edge if it lies on one, else a zone.
 pub fn read(s: &Sheet, x: i32, y: i32) -> Answer {
-    if let Some((number, item)) = judge(s).or_else(|| off_sheet(s, x, y).then_some((20, 0))) {
-        return Answer::Refused(number, item);
+    match judge(s) {
+        Some((number, item)) => Answer::Refused(number, item),
+        None => read_accepted(s, &line(s), x, y),
     }
-    things(s, &line(s), x, y)[0]
+}
+
+/// The plain reading on an accepted sheet with its line of rule 7: refusal 20, else the vertex, the edge or the zone.
+pub fn read_accepted(s: &Sheet, line: &[u32], x: i32, y: i32) -> Answer {
+    if off_sheet(s, x, y) { Answer::Refused(20, 0) } else { things(s, line, x, y)[0] }
 }
 
 /// The zones of every reading of a point on no vertex or edge, eastern and, where W < x < E, western (second demand).

@@ -3,7 +3,7 @@ use crate::drawings::{self, columned, shuffled, triangulated, zones, Drawing, Fr
 use crate::Random;
 
 /// The margins, the number of zones and the two tables, as they are lent.
-#[derive(Clone, Debug, Default)]
+#[derive(Clone, Debug, Default, PartialEq, Eq)]
 pub struct Sheet {
     pub west: i32,
     pub east: i32,

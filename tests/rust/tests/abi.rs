@@ -1,7 +1,8 @@
 //! The C ABI as its header has it: pointers with length 0, the words of `out`, and the stack that a call takes.
 use std::{ptr, thread};
-use thawweasel_tests::exported::{tw_open, tw_read, tw_search};
-use thawweasel_tests::{open, read, search, sheets, sheets::lens, Random};
+use thawweasel_tests::exported::{tw_open, tw_place_page, tw_read, tw_read_page, tw_search, tw_write_page};
+use thawweasel_tests::pages::{self, Lent, Page, ROOM};
+use thawweasel_tests::{open, place_page, read, read_page, search, sheets, sheets::lens, write_page, Random};
 
 /// What a word holds before it is lent.
 const LENT: u32 = 0xA5A5_A5A5;
@@ -46,6 +47,52 @@ fn so_many_words_of_out_are_written_and_no_more() {
     }
 }
 
+/// The lens sheet with two points, and its page.
+fn lens_page() -> (Page, Vec<u8>) {
+    let page = Page { sheet: lens(), points: vec![2, 0, 5, 0] };
+    let text = pages::write(&page).expect("a page that can be written");
+    (page, text.into_bytes())
+}
+
+#[test]
+fn a_pointer_with_length_0_to_a_page_or_its_tables_is_not_read() {
+    let (none, v, e, p) = (ptr::null::<u8>(), ptr::null_mut::<i32>(), ptr::null_mut::<u32>(), ptr::null_mut::<i32>());
+    let (mut out, mut text) = ([0; 8], vec![0; ROOM]);
+    unsafe { tw_read_page(none, 0, v, 0, e, 0, p, 0, out.as_mut_ptr()) };
+    assert_eq!(out, [32, 0, 0, 0, 0, 0, 0, 0]);
+    unsafe { tw_place_page(none, 0, text.as_mut_ptr(), ROOM, out.as_mut_ptr()) };
+    assert_eq!((&out[..2], &text[..13]), (&[0, 13][..], &b"refused 32 0\n"[..]));
+    unsafe { tw_place_page(none, 0, ptr::null_mut(), 0, out.as_mut_ptr()) };
+    assert_eq!(out[..2], [33, 0]);
+    unsafe { tw_write_page(-7, 9, v, 0, e, 0, 1, p, 0, ptr::null_mut(), 0, out.as_mut_ptr()) };
+    assert_eq!(out[..2], [33, 0]);
+    unsafe { tw_write_page(-7, 9, v, 0, e, 0, 1, p, 0, text.as_mut_ptr(), 43, out.as_mut_ptr()) };
+    assert_eq!((&out[..2], &text[..43]), (&[0, 43][..], &b"00fffffff900000009000000000000000000000001\n"[..]));
+    unsafe { tw_read_page(text.as_ptr(), 43, v, 0, e, 0, p, 0, out.as_mut_ptr()) };
+    assert_eq!(out, [0, 0, 0xFFFF_FFF9, 9, 0, 0, 1, 0]);
+}
+
+#[test]
+fn so_many_words_of_out_are_written_for_a_page_and_no_more() {
+    let (Page { sheet: s, points: p }, page) = lens_page();
+    let (v, e) = (&s.vertices, &s.edges);
+    let (mut vertices, mut edges, mut points, mut text) = (vec![7; 9], vec![7; 17], vec![7; 5], vec![7; ROOM + 1]);
+    let mut out = [u64::MAX; 9];
+    let tables = (vertices.as_mut_ptr(), edges.as_mut_ptr(), points.as_mut_ptr());
+    unsafe { tw_read_page(page.as_ptr(), page.len(), tables.0, 8, tables.1, 16, tables.2, 4, out.as_mut_ptr()) };
+    assert_eq!(out, [0, 0, 0, 4, 4, 4, 3, 2, u64::MAX]);
+    assert_eq!((&vertices[..8], &edges[..16], &points[..4]), (&v[..], &e[..], &p[..]));
+    assert_eq!((vertices[8], edges[16], points[4]), (7, 7, 7), "words past the lent ones");
+    let (t, length) = (text.as_mut_ptr(), page.len());
+    out = [u64::MAX; 9];
+    unsafe { tw_write_page(0, 4, v.as_ptr(), 8, e.as_ptr(), 16, 3, p.as_ptr(), 4, t, length, out.as_mut_ptr()) };
+    assert_eq!((&out[..3], &text[..length], text[length]), (&[0, length as u64, u64::MAX][..], &page[..], 7));
+    let t = text.as_mut_ptr();
+    out = [u64::MAX; 9];
+    unsafe { tw_place_page(page.as_ptr(), length, t, ROOM, out.as_mut_ptr()) };
+    assert_eq!((&out[..3], &text[..20], text[ROOM]), (&[0, 20, u64::MAX][..], &b"zone 1\nrefused 20 0\n"[..], 7));
+}
+
 #[test]
 fn a_stack_of_128_kib_is_enough() {
     let mut r = Random::new("stack", 20);
@@ -57,5 +104,23 @@ fn a_stack_of_128_kib_is_enough() {
             assert_eq!(search(&s, &index, s.west, 0, &mut trail)[..3], [kind, number, item]);
         };
         thread::Builder::new().stack_size(128 << 10).spawn(calls).unwrap().join().unwrap();
+    }
+}
+
+#[test]
+fn a_stack_of_256_kib_is_enough_for_a_page() {
+    let mut r = Random::new("stack for a page", 21);
+    for sheet in [sheets::accepted(&mut r, 850, 430, 1024), sheets::fan()] {
+        let page = Page { points: [sheet.west, 0].repeat(200), sheet };
+        let calls = move || {
+            let mut text = vec![0; ROOM];
+            let [refusal, length] = write_page(&page, &mut text).map(|word| word as usize);
+            let mut lent = Lent { vertices: vec![0; 2048], edges: vec![0; 8192], points: vec![0; 400] };
+            assert_eq!((refusal, read_page(&text[..length], &mut lent)[0]), (0, 0));
+            let written = text[..length].to_vec();
+            assert_eq!(place_page(&written, &mut text)[0], 0);
+            assert!(!text.starts_with(b"refused"));
+        };
+        thread::Builder::new().stack_size(256 << 10).spawn(calls).unwrap().join().unwrap();
     }
 }

@@ -1,7 +1,7 @@
 //! Random calls of opening, plain reading and quick search beside document 01 by brute force: both agree on every word.
 use thawweasel_tests::faults::{self, MISNAMED};
 use thawweasel_tests::paper::{self, Searched, CAUSES};
-use thawweasel_tests::{calls, damage, enough, lent, open, read, search, sheets, sheets::Sheet, Random};
+use thawweasel_tests::{calls, damage, lent, open, read, search, sheets, sheets::Sheet, Random, Tally};
 
 /// The refusals at which faults are aimed, 0 for what goes to a limit.
 const ALL: [u32; 13] = [0, 1, 2, 4, 5, 6, 7, 8, 9, 10, 11, 12, 13];
@@ -49,13 +49,13 @@ fn cases() -> Vec<String> {
 /// Calls made both ways, and how often each case came.
 struct Calls {
     made: usize,
-    came: Vec<(String, usize)>,
+    came: Tally,
 }
 
 impl Calls {
     /// Counts a case, which has to be one of `cases`.
     fn count(&mut self, case: String) {
-        self.came.iter_mut().find(|c| c.0 == case).unwrap_or_else(|| panic!("{case} is no case")).1 += 1;
+        self.came.count(&case);
     }
 
     /// Counts the answer of a reading or a search, and its point where that is at a margin of the sheet.
@@ -197,7 +197,7 @@ fn run(r: &mut Random, c: &mut Calls, s: &Sheet, searches: usize) {
 #[test]
 fn random_calls_agree_on_every_word() {
     let mut r = Random::new("agreement", 17);
-    let mut c = Calls { made: 0, came: cases().into_iter().map(|case| (case, 0)).collect() };
+    let mut c = Calls { made: 0, came: Tally::new(cases()) };
     for _ in 0..calls(4_000) {
         let s = sheets::any(&mut r);
         run(&mut r, &mut c, &s, 8);
@@ -210,7 +210,6 @@ fn random_calls_agree_on_every_word() {
         run(&mut r, &mut c, &s, 60);
     }
     println!("agreement: {} calls", c.made);
-    let came: Vec<(&str, usize)> = c.came.iter().map(|(case, count)| (&case[..], *count)).collect();
-    enough(&came);
+    c.came.enough();
     assert!(c.made >= 20_000, "{} calls", c.made);
 }
