@@ -1,9 +1,13 @@
-# run: a program that opens the worked sheets of document 01, searches for the lens's points and reads them, and its other worked
-# cases. test: every proof, every must-fail edit, every program, the Rust tests, the README's examples. bench: how long the three
-# calls take, beside plain Rust and brute force.
-.PHONY: run test bench
+# run: the program that places points, on the lens sheet of document 01 with its seven points. cases: document 01's worked cases.
+# test: every proof, every must-fail edit, every program, the Rust tests, the README's examples, the program on every kept page.
+# bench: how long opening, reading and searching take, beside plain Rust and brute force.
+.PHONY: run cases test bench
 
 run:
+	@rt check place > /dev/null || rt check place
+	@target/bin/place < crates/place/stdin
+
+cases:
 	@rt check cases > /dev/null || rt check cases
 	@target/bin/cases
 

@@ -2,8 +2,6 @@
 use mathlib.Core.List.{List, [], _∷_}
 use Prim.Native.Nat.{ℕ}
 use Rattle.frames.specs.declared.Page.{Page}
-use Rattle.frames.specs.declared.Judged.{Judged}
-use Rattle.frames.specs.declared.Line.{Line}
 use Rattle.frames.specs.declared.Written.{Written}
 use Rattle.frames.specs.Digits.{wordOf}
 

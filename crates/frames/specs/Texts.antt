@@ -15,7 +15,7 @@ use Rattle.frames.specs.declared.Page.{Page}
 use Rattle.frames.specs.declared.Written.{Written}
 use Rattle.frames.specs.Digits.{wordOf}
 use Rattle.frames.specs.Lines.{newline}
-use Rattle.frames.specs.Pages.{PageRead, readPage}
+use Rattle.frames.specs.Pages.{readPage}
 
 -- what a call of the writer leaves: its answer, and the lent text
 pub record PageWritten : Type 0 where

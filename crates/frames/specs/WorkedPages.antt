@@ -1,15 +1,14 @@
 -- Worked cases of document 02, P1, computed from the definitions: the lens sheet with its seven points as a page, and pages that are refused.
 use mathlib.Core.Path.{_≡_, refl}
-use mathlib.Core.List.{List, [], _∷_, _++_, map}
+use mathlib.Core.List.{List, [], _∷_, _++_}
 use Prim.Native.Nat.{ℕ}
 use lib.IntN.{ℤ, pos, negsuc}
-use lib.ListN.{length, take, drop, set}
+use lib.ListN.{take, drop, set}
 use Rattle.subdivision.specs.declared.Answer.{Answer}
 use Rattle.subdivision.specs.Lowest.{lowest}
 use Rattle.subdivision.specs.Lists.{tab}
 use Rattle.subdivision.specs.Sheet.{sheetOf}
 use Rattle.subdivision.specs.WorkedTable.{lens}
-use Rattle.frames.specs.declared.Judged.{Judged}
 use Rattle.frames.specs.declared.Judged.the-variants.{Good, Refused}
 use Rattle.frames.specs.declared.Page.{Page}
 use Rattle.frames.specs.Lines.{lineEnd, newline}

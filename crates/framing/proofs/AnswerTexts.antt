@@ -1,12 +1,11 @@
 -- Laws of the lines of answers: how they are written, and how long they are.
-use mathlib.Core.Path.{_≡_, refl, sym, ap, _∙_}
+use mathlib.Core.Path.{_≡_, ap, _∙_}
 use mathlib.Core.List.{List, [], _∷_, _++_, append-assoc}
 use Prim.Native.Nat.{ℕ, suc, _+_, _-_, _^_, _<_, _≤_}
 use native.Mathlib.Omega.{arith}
 use borrow.Author.Tests.{lt-ltb}
 use lib.Dec.{ltb}
 use lib.ListN.{length, length-append}
-use Rattle.io.specs.Digits.{digits}
 use Rattle.subdivision.specs.Lists.{over}
 use Rattle.subdivision.specs.Lowest.{lowest}
 use Rattle.frames.specs.Lines.{newline}

@@ -3,19 +3,19 @@ use mathlib.Core.Path.{_≡_, refl, sym, ap, subst, _∙_}
 use mathlib.Core.Bool.{Bool, true, false, not, true≢false}
 use mathlib.Core.List.{List}
 use mathlib.Core.Logic.{_⊎_, inl, inr, ⊎-elim, _↔_}
-use Prim.Native.Nat.{ℕ, zero, suc, _+_, _-_, _<_, _≤_, zero-le}
+use Prim.Native.Nat.{ℕ, zero, suc, _+_, _-_, _≤_, zero-le}
 use native.Mathlib.Nat.{le-refl, eq-or-lt-of-le}
 use native.Mathlib.Omega.{arith}
 use borrow.Author.Tests.{not-true, not-false}
 use lib.IntN.{ℤ}
 use lib.ListN.{length}
-use Rattle.subdivision.specs.Formula.{Formula, holds, Means}
+use Rattle.subdivision.specs.Formula.{holds, Means}
 use Rattle.subdivision.specs.Lists.{put}
 use Rattle.subdivision.specs.Refusals.{countsWithin}
 use Rattle.frames.specs.declared.Head.{Head}
 use Rattle.frames.specs.declared.Judged.{Judged}
 use Rattle.frames.specs.declared.Page.{Page}
-use Rattle.frames.specs.Lines.{lineStart, lineEnd}
+use Rattle.frames.specs.Lines.{lineStart}
 use Rattle.frames.specs.Pages.{headVertices, headEdges, headZones, isWhole, isWellMade, isInOrder, keepsLimits, isGood, isEnd, firstNotGood, lineRefusal, judgedPage, GoodBefore, LineRefuses}
 use Rattle.frames.specs.Pages.{headOf, vertexWords, edgeWords, pointWords, roomKept, readPage, GoodPage}
 use Rattle.theory.proofs.Decide.{below-suc, means, held, fails, denies, decided}

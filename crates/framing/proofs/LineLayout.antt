@@ -1,15 +1,11 @@
 -- Good lines: what each is, and where it begins and ends.
-use mathlib.Core.Path.{_≡_, refl, ap, _∙_}
-use mathlib.Core.Bool.{Bool, true, false}
+use mathlib.Core.Path.{_≡_, ap, _∙_}
 use mathlib.Core.List.{List}
 use Prim.Native.Nat.{ℕ, zero, suc, _+_, _-_, _*_, _<_, _≤_}
 use native.Mathlib.Nat.{le-refl, add-zero, add-suc}
 use native.Mathlib.Omega.{arith}
-use borrow.Author.Tests.{le-leb, lt-leb, eqb-true, ne-eqb}
-use lib.Dec.{leb, eqb}
-use lib.ListN.{length, getD}
+use lib.ListN.{getD}
 use Rattle.subdivision.specs.Formula.{Means}
-use Rattle.subdivision.specs.Lowest.{lowestFrom}
 use Rattle.frames.specs.Digits.{isDigit}
 use Rattle.frames.specs.Lines.{newline, frameLength, lineEnd, lineStart, kindAt}
 use Rattle.frames.specs.Pages.{headVertices, headEdges, wantedKind, isGood, GoodBefore}

@@ -1,7 +1,7 @@
 -- Where the tables of a good page stand in it: its lines follow one another with no gap.
 use mathlib.Core.Path.{_≡_, sym, ap}
 use mathlib.Core.List.{List}
-use Prim.Native.Nat.{ℕ, _+_, _*_, _/_, _%_, _<_, _≤_}
+use Prim.Native.Nat.{ℕ, _+_, _*_, _/_, _%_, _≤_}
 use native.Mathlib.Omega.{arith}
 use Rattle.subdivision.specs.Lists.{tab}
 use Rattle.frames.specs.Digits.{signedOf}

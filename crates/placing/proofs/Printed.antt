@@ -1,9 +1,8 @@
 -- What is printed for a sheet and for a page, case by case; and that an index with room for any asks nothing more than the tables.
 use mathlib.Core.Path.{_≡_, refl, sym, ap, _∙_}
-use mathlib.Core.Bool.{true, false}
 use mathlib.Core.List.{List, _∷_}
 use mathlib.Core.Logic.{⊎-elim}
-use Prim.Native.Nat.{ℕ, _+_, _/_, _<_, _≤_}
+use Prim.Native.Nat.{ℕ, _/_, _<_, _≤_}
 use native.Mathlib.Omega.{arith}
 use borrow.Author.Tests.{lt-ltb, le-ltb, le-leb, lt-leb}
 use lib.IntN.{ℤ}
@@ -19,7 +18,7 @@ use Rattle.subdivision.specs.Faults.{tableRefusals, openingRefusals}
 use Rattle.frames.specs.declared.Judged.{Judged}
 use Rattle.frames.specs.declared.Written.{Written}
 use Rattle.frames.specs.Pages.{judgedPage, pageSheet, pointWords}
-use Rattle.frames.specs.Placing.{maxPage, maxText, decimal, refusedText, answersText, sheetText, placedText, placePage}
+use Rattle.frames.specs.Placing.{maxPage, maxText, refusedText, answersText, sheetText, placedText, placePage}
 use Rattle.theory.proofs.Decide.{decided, held}
 use Rattle.theory.proofs.Judgement.{passed-keeps, refused-first, passed-first}
 use Rattle.framing.proofs.AnswerTexts.{decimal-short, refused-long}

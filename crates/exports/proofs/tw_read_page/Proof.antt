@@ -1,5 +1,5 @@
 -- The answer's numbers are its values, and the tables are what the reader leaves.
-use mathlib.Core.Path.{_≡_, sym, ap, _∙_}
+use mathlib.Core.Path.{sym, ap, _∙_}
 use mathlib.Core.List.{[], _∷_}
 use borrow.Author.Needs.{needs, sfits-of}
 use mir.Syntax.{w32}

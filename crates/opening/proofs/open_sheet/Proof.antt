@@ -60,8 +60,7 @@ counts : (c : tie.After-enum-told) → Means (countsKept (tables (c .before .bef
 counts c = passed-keeps (limitRefusals (tables (c .before .before .before .before .before))) (limits-passed c) .0
 
 need-requires : tie.Need-need-requires
-need-requires c κs =
-    let k = counts c in (omega arith, omega arith)
+need-requires c κs = let k = counts c in (omega arith, omega arith)
 
 returns-2 : tie.Need-returns-2
 returns-2 c =

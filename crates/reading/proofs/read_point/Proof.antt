@@ -102,8 +102,7 @@ array-read-place : tie.Need-array-read-place
 array-read-place c = search needs
 
 place-requires : tie.Need-place-requires
-place-requires c κs =
-    let k = accepted (c .before .before .before .before .before .before) .counts .1 .0 in (k .0, k .1)
+place-requires c κs = let k = accepted (c .before .before .before .before .before .before) .counts .1 .0 in (k .0, k .1)
 
 -- the words that the rules wrote
 written : (c : tie.After-enum-told) → c .before .before .rules .last .1 .1 .1 .1 .1 .0 ≡ put (zoneLine (tables (c .before .before .before .before .before))) (replicate maxZones 0)

@@ -74,8 +74,7 @@ counts : (c : tie.After-enum-told) → Means (countsKept (tables (c .before .bef
 counts c = passed-keeps (limitRefusals (tables (c .before .before .before .before .before .before))) (limits-passed c) .0
 
 need-requires : tie.Need-need-requires
-need-requires c κs =
-    let k = counts c in (k .1 .1 .1, k .1 .0 .1)
+need-requires c κs = let k = counts c in (k .1 .1 .1, k .1 .0 .1)
 
 refused-requires-2 : tie.Need-refused-requires-2
 refused-requires-2 c κs = search needs

@@ -1,5 +1,4 @@
 -- `digits::digit_value` meets its contract.
-use mathlib.Core.Path.{sym}
 use native.Mathlib.Omega.{arith}
 use borrow.Author.Tests.{le-leb, lt-leb}
 use Rattle.frames.specs.Digits.{digitValue}

@@ -1,12 +1,12 @@
 -- The loop's invariant: every byte before i is a digit. The measure is what is left.
-use mathlib.Core.Path.{_≡_, sym, ap, _∙_}
+use mathlib.Core.Path.{_≡_, sym, _∙_}
 use mathlib.Core.Logic.{⊎-elim}
 use Prim.Native.Nat.{ℕ, suc, _≤_, _<_, _-_, _+_}
 use native.Mathlib.Omega.{arith}
 use borrow.Author.Needs.{needs}
 use borrow.Author.Tests.{not-true, not-false}
 use lib.ListN.{getD}
-use Rattle.subdivision.specs.Formula.{Means, holds}
+use Rattle.subdivision.specs.Formula.{Means}
 use Rattle.frames.specs.Digits.{isDigit}
 use Rattle.frames.specs.Lines.{isHexadecimal}
 use Rattle.theory.proofs.Decide.{held, fails, means, denies, below-suc}

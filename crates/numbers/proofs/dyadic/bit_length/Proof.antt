@@ -28,8 +28,7 @@ loop-again : tie.Need-loop-again Inv-loop μ-loop
 loop-again c = omega (arith, bits-half (c .before .loop .rest) (omega arith))
 
 returns : tie.Need-returns Inv-loop μ-loop
-returns c =
-    let none : c .before .loop .rest ≡ 0 = omega arith in omega (arith, ap bits none, bits-zero)
+returns c = let none : c .before .loop .rest ≡ 0 = omega arith in omega (arith, ap bits none, bits-zero)
 
 pub bit-length-spec : {M : Type 1} → statement M
 bit-length-spec =

@@ -20,8 +20,7 @@ shl-result : tie.Need-shl-result
 shl-result c = omega (arith, c .bit-length .ensures, bits-le 32 (c .before .before .args .k) (omega arith))
 
 returns-2 : tie.Need-returns-2
-returns-2 c =
-    let k = c .before .before .args .k in omega (arith, topBit-le k, topBit-is-pow k (omega arith) ∙ ap (λ (b : ℕ). 2 ^ (b - 1)) (sym (c .bit-length .ensures)))
+returns-2 c = let k = c .before .before .args .k in omega (arith, topBit-le k, topBit-is-pow k (omega arith) ∙ ap (λ (b : ℕ). 2 ^ (b - 1)) (sym (c .bit-length .ensures)))
 
 pub top-bit-spec : {M : Type 1} → statement M
 top-bit-spec = tie.close (tie.spec returns bit-length-requires sub-result shl-result returns-2)

@@ -1,13 +1,12 @@
 -- A kind out of order is 31; a head whose counts break the limits is 1; any other well-made line is good.
-use mathlib.Core.Path.{_≡_, sym, ap, _∙_}
+use mathlib.Core.Path.{_≡_, sym, _∙_}
 use mathlib.Core.List.{List}
 use Prim.Native.Nat.{ℕ}
 use borrow.Author.Needs.{needs}
 use borrow.Author.Tests.{not-true, not-false}
 use Rattle.subdivision.specs.Formula.{Means, holds}
 use Rattle.subdivision.specs.Refusals.{countsWithin}
-use Rattle.frames.specs.Lines.{lineStart, kindAt}
-use Rattle.frames.specs.Pages.{kindInOrder, headVertices, headEdges, headZones, wantedKind, isInOrder, keepsLimits}
+use Rattle.frames.specs.Pages.{kindInOrder, headVertices, headEdges, headZones, wantedKind, isInOrder}
 use Rattle.theory.proofs.Decide.{means, denies}
 use Rattle.framing.proofs.Judging.{refused-31, refused-1}
 use borrow.Author.Needs.{needs}

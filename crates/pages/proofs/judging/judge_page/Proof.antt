@@ -2,7 +2,7 @@
 use mathlib.Core.Path.{_≡_, refl, sym, subst, ap, _∙_}
 use mathlib.Core.List.{List}
 use mathlib.Core.Logic.{⊎-elim}
-use Prim.Native.Nat.{ℕ, suc, _+_, _-_, _<_, _≤_}
+use Prim.Native.Nat.{ℕ, suc, _+_, _-_, _≤_}
 use native.Mathlib.Nat.{not-suc-le-zero}
 use native.Mathlib.Numerals.{add-one}
 use native.Mathlib.Omega.{arith}
@@ -11,7 +11,7 @@ use lib.ListN.{length}
 use Rattle.subdivision.specs.Formula.{Means}
 use Rattle.frames.specs.declared.Judged.{Judged}
 use Rattle.frames.specs.Lines.{lineStart}
-use Rattle.frames.specs.Pages.{headVertices, headEdges, isGood, lineRefusal, GoodBefore}
+use Rattle.frames.specs.Pages.{headVertices, headEdges, isGood, GoodBefore}
 use Rattle.theory.proofs.Decide.{below-suc}
 use Rattle.framing.proofs.LineEnds.{line-end-from}
 use Rattle.framing.proofs.Judging.{lines-within, judged-ends, judged-refuses}

@@ -1,12 +1,11 @@
 -- The third demand and refusal 20: on an accepted sheet the quick search answers as the plain reading does.
-use mathlib.Core.Path.{_≡_, ap, _∙_}
-use mathlib.Core.List.{List}
+use mathlib.Core.Path.{ap, _∙_}
 use borrow.Author.Needs.{needs}
 use lib.IntN.{ℤ}
 use lib.ListN.{replicate}
 use mir.Facts.{toZ-ofZ}
 use Rattle.subdivision.specs.declared.Answer.{Answer}
-use Rattle.subdivision.specs.Sheet.{Sheet, sheetOf}
+use Rattle.subdivision.specs.Sheet.{sheetOf}
 use Rattle.subdivision.specs.Calls.{searching}
 use Rattle.theory.proofs.ThirdDemand.{searched-is-read-everywhere}
 use Rattle.descent.proofs.Descending.{few-edges}

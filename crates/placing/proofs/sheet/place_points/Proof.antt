@@ -1,16 +1,15 @@
 -- The loop's invariant: the lines of the first i points are written, each of at most 30 bytes. The measure is what is left.
 use mathlib.Core.Path.{_≡_, refl, sym, ap, subst, _∙_}
-use mathlib.Core.List.{List, _++_}
-use Prim.Native.Nat.{ℕ, _+_, _-_, _*_, _/_, _≤_}
+use mathlib.Core.List.{_++_}
+use Prim.Native.Nat.{_+_, _-_, _*_, _/_, _≤_}
 use native.Mathlib.Numerals.{add-one}
 use native.Mathlib.Omega.{arith}
 use borrow.Author.Needs.{needs, sfits-of}
-use lib.IntN.{ℤ, pos}
+use lib.IntN.{pos}
 use lib.ListN.{length, getD, length-append}
 use mir.Syntax.{w32}
 use mir.Val.{toZ, ofZ}
 use mir.Facts.{toZ-ofZ}
-use Rattle.subdivision.specs.declared.Answer.{Answer}
 use Rattle.subdivision.specs.Lists.{put, over}
 use Rattle.subdivision.specs.Sheet.{Sheet, sheetOf}
 use Rattle.subdivision.specs.Accepted.{Accepted}

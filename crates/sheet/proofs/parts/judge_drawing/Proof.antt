@@ -40,16 +40,13 @@ records c = go (passed-keeps (recordRefusals (tables c)) (c .pre .1))
     go (k4, (k5, (k6, (k7, (k8, t))))) = ((k4, k5), (k6, (k7, k8)))
 
 cast-v : tie.Need-cast-v
-cast-v c =
-    let k = counts (c .before) in omega arith
+cast-v c = let k = counts (c .before) in omega arith
 
 cast-m : tie.Need-cast-m
-cast-m c =
-    let k = counts (c .before) in omega arith
+cast-m c = let k = counts (c .before) in omega arith
 
 first-irregular-requires : tie.Need-first-irregular-requires
-first-irregular-requires c κs =
-    let k = counts (c .before) in (omega arith, omega arith)
+first-irregular-requires c κs = let k = counts (c .before) in (omega arith, omega arith)
 
 -- the scan of rule 3, of the sheet's own margins
 irregular : (c : tie.After-first-irregular)

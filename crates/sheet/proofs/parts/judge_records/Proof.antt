@@ -31,12 +31,10 @@ counts : (c : tie.Start) → Means (countsKept (tables c))
 counts c = passed-keeps (limitRefusals (tables c)) (c .pre) .0
 
 cast-v : tie.Need-cast-v
-cast-v c =
-    let k = counts (c .before) in omega arith
+cast-v c = let k = counts (c .before) in omega arith
 
 cast-m : tie.Need-cast-m
-cast-m c =
-    let k = counts (c .before) in omega arith
+cast-m c = let k = counts (c .before) in omega arith
 
 first-outside-requires : tie.Need-first-outside-requires
 first-outside-requires c κs = search needs
@@ -54,8 +52,7 @@ returns c =
     found 4 (vertexCount s) (vertexInside s) (after (c .before .before .before) 1) (c .before .first-outside .result) (outside (c .before)) (omega arith)
 
 first-repeat-requires : tie.Need-first-repeat-requires
-first-repeat-requires c κs =
-    let k = counts (c .before .before .before) in omega arith
+first-repeat-requires c κs = let k = counts (c .before .before .before) in omega arith
 
 passed-4 : (c : tie.Else1) → judged (recordRefusals (tables (c .before .before .before))) ≡ judged (after (c .before .before .before) 1)
 passed-4 c =

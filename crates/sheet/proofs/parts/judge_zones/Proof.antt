@@ -43,8 +43,7 @@ same-line : (c : tie.Start) → zoneLine (zonesOf (c .args .edges .now) (c .args
 same-line c = sym (line-of-edges (c .args .west) (c .args .east) (c .args .vertices .now) (c .args .edges .now) (c .args .zones))
 
 first-unnamed-requires : tie.Need-first-unnamed-requires
-first-unnamed-requires c κs =
-    let k = counts (c .before) in (omega arith, omega arith)
+first-unnamed-requires c κs = let k = counts (c .before) in (omega arith, omega arith)
 
 returns : tie.Need-returns
 returns c =
@@ -60,8 +59,7 @@ slice-aggregate-line-through : tie.Need-slice-aggregate-line-through
 slice-aggregate-line-through c = sym (length-replicate {A = ℕ} maxZones 0)
 
 line-through-requires : tie.Need-line-through-requires
-line-through-requires c κs =
-    let k = counts (c .before .before .before .before .before) in ((omega arith, omega arith), (omega (arith, length-replicate {A = ℕ} maxZones 0), omega arith))
+line-through-requires c κs = let k = counts (c .before .before .before .before .before) in ((omega arith, omega arith), (omega (arith, length-replicate {A = ℕ} maxZones 0), omega arith))
 
 -- the lowest zone that the sheet's line leaves
 left : (c : tie.After-line-through)
