@@ -1,5 +1,6 @@
 -- Laws of document 02, P1, a file a subject.
 pub mod AnswerTexts
+pub mod FrameLengths
 pub mod GoodLines
 pub mod Judging
 pub mod LineEnds

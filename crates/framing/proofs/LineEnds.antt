@@ -2,53 +2,17 @@
 use mathlib.Core.Path.{_≡_, refl, ap, _∙_}
 use mathlib.Core.Bool.{Bool, true, false}
 use mathlib.Core.List.{List}
-use Prim.Native.Nat.{ℕ, zero, suc, _+_, _-_, _<_, _≤_}
-use native.Mathlib.Nat.{le-refl, add-zero, add-suc, suc-add}
+use Prim.Native.Nat.{ℕ, suc, _+_, _-_, _<_, _≤_}
 use native.Mathlib.Omega.{arith}
 use borrow.Author.Tests.{ltb-true, ltb-false, eqb-true, lt-ltb, le-ltb, eq-eqb, ne-eqb}
 use lib.Dec.{eqb, ltb}
 use lib.ListN.{length, getD}
 use Rattle.subdivision.specs.Formula.{holds, Means}
-use Rattle.subdivision.specs.Lowest.{lowestFrom}
 use Rattle.frames.specs.declared.Line.{Line}
 use Rattle.frames.specs.declared.Line.the-variants.{Frame, Malformed, Unfinished, End}
 use Rattle.frames.specs.Lines.{newline, lineEnd, kindAt, isFrame, lineAt}
 use Rattle.theory.proofs.Decide.{means, denies}
-use Rattle.theory.proofs.Lowest.{lowest-from-next, lowest-from-found, lowest-from-end}
-
--- a search from a place on does not go back
-search-on : (test : ℕ → Bool) (left at : ℕ) → at ≤ lowestFrom test left at
-search-on test zero at = le-refl at
-search-on test (suc left) at = go (test at) (search-on test left (suc at))
-  where
-    go : (t : Bool) → suc at ≤ lowestFrom test left (suc at) → at ≤ elim t [ true ↦ at | false ↦ lowestFrom test left (suc at) ]
-    go true rest = le-refl at
-    go false rest = omega arith
-
--- a search from a place on that ends before its last number has found one that passes
-search-passes : (test : ℕ → Bool) (left at : ℕ) → lowestFrom test left at < at + left → test (lowestFrom test left at) ≡ true
-search-passes test zero at h = absurd (omega arith)
-search-passes test (suc left) at h = go (test at) refl h (search-passes test left (suc at))
-  where
-    rest : ℕ
-    rest = lowestFrom test left (suc at)
-
-    go : (t : Bool) → test at ≡ t → (elim t [ true ↦ at | false ↦ rest ]) < at + suc left
-        → (rest < suc at + left → test rest ≡ true) → test (elim t [ true ↦ at | false ↦ rest ]) ≡ true
-    go true e h later = e
-    go false e h later = later (omega arith)
-
--- a search from a place on ends at the first number that passes
-search-first : (test : ℕ → Bool) (n at k : ℕ) → at + k < n → ((i : ℕ) → i < k → test (at + i) ≡ false) → test (at + k) ≡ true
-    → lowestFrom test (n - at) at ≡ at + k
-search-first test n at zero h f e =
-    rw add-zero (lowest-from-found test n at (omega arith) (rw add-zero at e))
-search-first test n at (suc k) h f e =
-    lowest-from-next test n at (omega arith) (rw add-zero at (f 0 (omega arith)))
-    ∙ rw (add-suc at k, ← (suc-add at k)) (search-first test n (suc at) k (omega arith) later (rw (suc-add at k, ← (add-suc at k)) e))
-  where
-    later : (i : ℕ) → i < k → test (suc at + i) ≡ false
-    later i l = rw (suc-add at i, ← (add-suc at i)) (f (suc i) (omega arith))
+use Rattle.theory.proofs.Lowest.{lowest-from-next, lowest-from-found, lowest-from-end, lowest-from-on, lowest-from-passes, lowest-from-first}
 
 module _ (page : List ℕ) where
   -- a byte is the newline
@@ -75,7 +39,7 @@ module _ (page : List ℕ) where
       → getD page (at + k) 0 ≡ newline → lineEnd page at ≡ at + k
   unfolding lineEnd
   line-end-first at k h before e =
-      search-first isNewline (length page) at k h
+      lowest-from-first isNewline (length page) at k h
       (λ i l. ne-eqb (getD page (at + i) 0) newline (before i l)) (eq-eqb (getD page (at + k) 0) newline e)
 
   -- what stands at a place, from the three tests that tell
@@ -110,13 +74,13 @@ module _ (page : List ℕ) where
   -- a line ends at its place or past it
   pub line-end-from : (at : ℕ) → at ≤ lineEnd page at
   unfolding lineEnd
-  line-end-from at = search-on isNewline (length page - at) at
+  line-end-from at = lowest-from-on isNewline (length page - at) at
 
   -- a line that ends on the page ends in a newline
   pub line-end-newline : (at : ℕ) → lineEnd page at < length page → getD page (lineEnd page at) 0 ≡ newline
   unfolding lineEnd
   line-end-newline at h =
-      let found = search-passes isNewline (length page - at) at (omega arith) in
+      let found = lowest-from-passes isNewline (length page - at) at (omega arith) in
       eqb-true (getD page (lineEnd page at) 0) newline found
 
   -- what is known of a place from what stands there

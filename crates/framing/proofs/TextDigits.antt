@@ -60,10 +60,6 @@ pub digit-no-newline : (b : ℕ) → Means (isDigit b) → b ≡ newline → ⊥
 digit-no-newline b (inl h) e = omega arith
 digit-no-newline b (inr h) e = omega arith
 
--- a digit is written as no newline
-pub glyph-no-newline : (d : ℕ) → d < 16 → glyph d ≡ newline → ⊥
-glyph-no-newline d h = digit-no-newline (glyph d) (glyph-is-digit d h)
-
 -- k digits are k bytes
 pub length-digits : (b k v : ℕ) → length (digits b k v) ≡ k
 length-digits b zero v = refl

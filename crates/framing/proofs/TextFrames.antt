@@ -1,29 +1,23 @@
 -- The text of a frame, and of frames one after another: how long it is, and that a page that has it reads the frames back.
-use mathlib.Core.Path.{_≡_, refl, sym, ap, subst, _∙_}
+use mathlib.Core.Path.{_≡_, sym, ap, subst, _∙_}
 use mathlib.Core.List.{List, [], _∷_, _++_, append-assoc}
 use mathlib.Core.Logic.{⊎-elim}
-use Prim.Native.Nat.{ℕ, zero, suc, _+_, _-_, _*_, _/_, _<_, _≤_}
+use Prim.Native.Nat.{ℕ, zero, suc, _+_, _-_, _*_, _<_, _≤_}
 use native.Mathlib.Nat.{add-zero, add-suc, add-assoc, not-suc-le-zero, add-sub-cancel-left}
 use native.Mathlib.Omega.{arith}
-use lib.IntN.{ℤ}
 use lib.ListN.{length, getD, length-append}
 use Rattle.io.specs.Digits.{digits}
 use Rattle.subdivision.specs.Formula.{Means}
-use Rattle.subdivision.specs.Sheet.{Sheet, vertexCount, edgeCount}
 use Rattle.theory.proofs.Decide.{below-suc}
 use Rattle.frames.specs.Digits.{isDigit, number}
 use Rattle.frames.specs.Lines.{newline, numbersOf, frameLength, lineEnd, lineStart, kindAt, numberAt, isFrame}
-use Rattle.frames.specs.Texts.{numbersText, frameText, framesText, pairNumbers, edgeNumbers, headNumbers, pageText, writableCounts}
+use Rattle.frames.specs.Texts.{numbersText, frameText, framesText}
+use Rattle.framing.proofs.FrameLengths.{length-numbers, frame-long, frames-long}
 use Rattle.framing.proofs.LineEnds.{line-end-first}
 use Rattle.framing.proofs.TextDigits.{Has, has-front, has-back, has-digits, digit-no-newline, length-digits, number-reads}
 use Rattle.framing.proofs.TextDigits.{AllDigits, all-digits-none, all-digits-append, all-digits}
 
 -- ---- lengths
-
--- numbers as text are eight bytes each
-pub length-numbers : (ws : List ℕ) → length (numbersText ws) ≡ 8 * length ws
-length-numbers [] = refl
-length-numbers (w ∷ ws) = omega (arith, length-append (digits 16 8 w) (numbersText ws), length-digits 16 8 w, length-numbers ws)
 
 -- a frame as text, without its newline
 abbrev pub frameDigits : ℕ → List ℕ → List ℕ
@@ -40,52 +34,12 @@ length-frame-digits kind ws long =
 
 -- a frame as text is one byte longer
 pub length-frame : (kind : ℕ) (ws : List ℕ) → length ws ≡ numbersOf kind → length (frameText kind ws) ≡ frameLength kind + 1
-length-frame kind ws long =
-    ap length (frame-splits kind ws)
-    ∙ omega (arith, length-append (frameDigits kind ws) (newline ∷ []), length-frame-digits kind ws long)
+length-frame kind ws long = omega (arith, frame-long kind ws, long)
 
 -- frames one after another are so many times that
 pub length-frames : (kind : ℕ) (numbers : ℕ → List ℕ) (count : ℕ) → ((i : ℕ) → length (numbers i) ≡ numbersOf kind)
     → length (framesText kind numbers count) ≡ count * (frameLength kind + 1)
-length-frames kind numbers zero long = omega arith
-length-frames kind numbers (suc count) long =
-    length-append (framesText kind numbers count) (frameText kind (numbers count))
-    ∙ omega (arith, length-frames kind numbers count long, length-frame kind (numbers count) (long count))
-
--- four texts one after another
-four-lengths : (a b c d : List ℕ) → length (a ++ (b ++ (c ++ d))) ≡ length a + length b + length c + length d
-four-lengths a b c d = omega (arith, length-append a (b ++ (c ++ d)), length-append b (c ++ d), length-append c d)
-
-module _ (s : Sheet) (points : List ℤ) where
-  -- the text of a sheet with its points: 43 bytes for the head, 19 for each vertex, 35 for each edge, 19 for each point
-  pub text-length : length (pageText s points) ≡ 43 + 19 * vertexCount s + 35 * edgeCount s + 19 * (length points / 2)
-  unfolding pageText
-  text-length =
-      four-lengths (frameText 0 (headNumbers s points)) vertices edges sights
-      ∙ omega (arith, vertex-bytes, edge-bytes, point-bytes)
-    where
-      vertices : List ℕ
-      vertices = framesText 1 (pairNumbers (s .vertices)) (vertexCount s)
-
-      edges : List ℕ
-      edges = framesText 2 (edgeNumbers (s .edges)) (edgeCount s)
-
-      sights : List ℕ
-      sights = framesText 3 (pairNumbers points) (length points / 2)
-
-      vertex-bytes : length vertices ≡ vertexCount s * 19
-      vertex-bytes = length-frames 1 (pairNumbers (s .vertices)) (vertexCount s) (λ i. refl)
-
-      edge-bytes : length edges ≡ edgeCount s * 35
-      edge-bytes = length-frames 2 (edgeNumbers (s .edges)) (edgeCount s) (λ i. refl)
-
-      point-bytes : length sights ≡ length points / 2 * 19
-      point-bytes = length-frames 3 (pairNumbers points) (length points / 2) (λ i. refl)
-
-  -- the same length, for a sheet and points that the writer does not refuse
-  pub page-length : Means (writableCounts s points)
-      → length (pageText s points) ≡ 43 + 19 * vertexCount s + 35 * edgeCount s + 19 * (length points / 2)
-  page-length kept = text-length
+length-frames kind numbers count long = omega (arith, frames-long kind (numbersOf kind) numbers long count)
 
 -- ---- a frame read back
 

@@ -17,11 +17,12 @@ use Rattle.frames.specs.Pages.{headVertices, headEdges, isGood, isEnd, GoodBefo
 use Rattle.frames.specs.Pages.{numberOf, headOf, vertexWords, edgeWords, pointWords, roomKept}
 use Rattle.frames.specs.Texts.{frameText, framesText, pairNumbers, edgeNumbers, headNumbers}
 use Rattle.frames.specs.Texts.{pageText, writableCounts, sheetHead, ReadsBack}
+use Rattle.framing.proofs.FrameLengths.{text-length}
 use Rattle.framing.proofs.GoodLines.{HeadCounts, good-line, good-lines, good-end, good-page}
 use Rattle.framing.proofs.Judging.{good-judged, read-good}
 use Rattle.framing.proofs.LineKinds.{kind-vertex, kind-edge, kind-point}
 use Rattle.framing.proofs.TextDigits.{Has, has-itself, has-front, has-back, signed-word, word-fits}
-use Rattle.framing.proofs.TextFrames.{text-length, AllWords, FrameRead, frame-reads, has-past-frames, FrameLines, frame-lines}
+use Rattle.framing.proofs.TextFrames.{AllWords, FrameRead, frame-reads, has-past-frames, FrameLines, frame-lines}
 use Rattle.framing.proofs.TextTables.{pair-fits, pairs-back, edge-fits, edges-back}
 
 -- every number of the sheet and of a table of points is of four bytes

@@ -1,7 +1,7 @@
 -- Laws of frames written one after another.
 use mathlib.Core.Path.{_≡_, refl, sym, ap, _∙_}
 use mathlib.Core.List.{List, [], _∷_, _++_, append-assoc, append-nil}
-use Prim.Native.Nat.{ℕ, zero, suc, _+_, _*_, _<_, _≤_}
+use Prim.Native.Nat.{ℕ, _+_, _*_, _<_, _≤_}
 use native.Mathlib.Numerals.{add-one}
 use native.Mathlib.Omega.{arith}
 use lib.ListN.{length, getD, take, length-append}
@@ -12,7 +12,7 @@ use Rattle.frames.specs.Lines.{newline}
 use Rattle.frames.specs.Texts.{numbersText, frameText, framesText}
 use Rattle.theory.proofs.Written.{over-none, over-more, length-over}
 use Rattle.framing.proofs.TextDigits.{length-digits}
-use Rattle.framing.proofs.TextFrames.{length-numbers}
+use Rattle.framing.proofs.FrameLengths.{length-numbers, frames-long}
 
 -- the text of numbers, and of more of them
 numbers-join : (a b : List ℕ) → numbersText (a ++ b) ≡ numbersText a ++ numbersText b
@@ -40,11 +40,6 @@ numbers-next ns text at i h l =
 pub numbers-within : (ns text : List ℕ) (at i : ℕ) → i ≤ length ns → at + 8 * i ≤ length text → length (over (numbersText (take i ns)) text at) ≡ length text
 numbers-within ns text at i l h = length-over (numbersText (take i ns)) text at (omega (arith, length-numbers (take i ns), length-take-le i ns l))
 
--- how long a frame with its newline is
-pub frame-long : (kind : ℕ) (ns : List ℕ) → length (frameText kind ns) ≡ 3 + 8 * length ns
-frame-long kind ns =
-    omega (arith, length-append (digits 16 2 kind) (numbersText ns ++ (newline ∷ [])), length-digits 16 2 kind, length-append (numbersText ns) (newline ∷ []), length-numbers ns)
-
 -- a frame is its kind, its numbers and a newline, one after the other
 pub frame-written : (kind : ℕ) (ns text : List ℕ) (at next last : ℕ) → at ≤ length text → next ≡ at + 2 → last ≡ next + 8 * length ns
     → over (newline ∷ []) (over (numbersText ns) (over (digits 16 2 kind) text at) next) last ≡ over (frameText kind ns) text at
@@ -55,12 +50,6 @@ frame-written kind ns text at next last h e f =
     ∙ ap (λ w. over w text at) (append-assoc (digits 16 2 kind) (numbersText ns) (newline ∷ []))
 
 module _ (kind n : ℕ) (numbers : ℕ → List ℕ) (long : (i : ℕ) → length (numbers i) ≡ n) where
-  -- how long so many frames are
-  pub frames-long : (count : ℕ) → length (framesText kind numbers count) ≡ (3 + 8 * n) * count
-  frames-long zero = omega arith
-  frames-long (suc count) =
-      omega (arith, frames-long count, long count, length-append (framesText kind numbers count) (frameText kind (numbers count)), frame-long kind (numbers count))
-
   -- no frames are written at the start
   pub frames-start : (text : List ℕ) (at : ℕ) → text ≡ over (framesText kind numbers 0) text at
   frames-start text at = over-none text at
@@ -69,8 +58,8 @@ module _ (kind n : ℕ) (numbers : ℕ → List ℕ) (long : (i : ℕ) → lengt
   pub frames-next : (text : List ℕ) (at next i : ℕ) → at ≤ length text → next ≡ at + (3 + 8 * n) * i
       → over (frameText kind (numbers i)) (over (framesText kind numbers i) text at) next ≡ over (framesText kind numbers (i + 1)) text at
   frames-next text at next i h e =
-      rw (add-one i) (over-more (framesText kind numbers i) (frameText kind (numbers i)) text at next h (omega (arith, e, frames-long i)))
+      rw (add-one i) (over-more (framesText kind numbers i) (frameText kind (numbers i)) text at next h (omega (arith, e, frames-long kind n numbers long i)))
 
   -- a text with room is as long after frames were written over it
   pub frames-within : (text : List ℕ) (at count : ℕ) → at + (3 + 8 * n) * count ≤ length text → length (over (framesText kind numbers count) text at) ≡ length text
-  frames-within text at count h = length-over (framesText kind numbers count) text at (omega (arith, frames-long count))
+  frames-within text at count h = length-over (framesText kind numbers count) text at (omega (arith, frames-long kind n numbers long count))

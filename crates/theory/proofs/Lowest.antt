@@ -3,7 +3,7 @@ use mathlib.Core.Path.{_≡_, refl, sym, ap, _∙_}
 use mathlib.Core.Bool.{Bool, true, false}
 use mathlib.Core.Logic.{_⊎_, inl, inr, ⊎-elim}
 use Prim.Native.Nat.{ℕ, zero, suc, _+_, _-_, _<_, _≤_, zero-le, min}
-use native.Mathlib.Nat.{lt-irrefl, lt-suc-self, le-refl, not-suc-le-zero, add-zero}
+use native.Mathlib.Nat.{lt-irrefl, lt-suc-self, le-refl, not-suc-le-zero, add-zero, add-suc, suc-add}
 use native.Mathlib.Numerals.{add-one}
 use native.Mathlib.Decide.{decLe}
 use native.Mathlib.Omega.{arith}
@@ -82,6 +82,40 @@ pub lowest-from : (test : ℕ → Bool) (n i : ℕ) → i ≤ n → ((k : ℕ) �
 lowest-from test n i h f =
     let whole : n - i + i ≡ n = omega arith in
     sym (is-lowest (rw whole at (lowestFrom-is test (n - i) i f)))
+
+-- a search from a place on does not go back
+pub lowest-from-on : (test : ℕ → Bool) (left at : ℕ) → at ≤ lowestFrom test left at
+lowest-from-on test zero at = le-refl at
+lowest-from-on test (suc left) at = go (test at) (lowest-from-on test left (suc at))
+  where
+    go : (t : Bool) → suc at ≤ lowestFrom test left (suc at) → at ≤ elim t [ true ↦ at | false ↦ lowestFrom test left (suc at) ]
+    go true rest = le-refl at
+    go false rest = omega arith
+
+-- a search from a place on that ends before its last number has found one that passes
+pub lowest-from-passes : (test : ℕ → Bool) (left at : ℕ) → lowestFrom test left at < at + left → test (lowestFrom test left at) ≡ true
+lowest-from-passes test zero at h = absurd (omega arith)
+lowest-from-passes test (suc left) at h = go (test at) refl h (lowest-from-passes test left (suc at))
+  where
+    rest : ℕ
+    rest = lowestFrom test left (suc at)
+
+    go : (t : Bool) → test at ≡ t → (elim t [ true ↦ at | false ↦ rest ]) < at + suc left
+        → (rest < suc at + left → test rest ≡ true) → test (elim t [ true ↦ at | false ↦ rest ]) ≡ true
+    go true e h later = e
+    go false e h later = later (omega arith)
+
+-- a search from a place on ends at the first number that passes
+pub lowest-from-first : (test : ℕ → Bool) (n at k : ℕ) → at + k < n → ((i : ℕ) → i < k → test (at + i) ≡ false) → test (at + k) ≡ true
+    → lowestFrom test (n - at) at ≡ at + k
+lowest-from-first test n at zero h f e =
+    rw add-zero (lowest-from-found test n at (omega arith) (rw add-zero at e))
+lowest-from-first test n at (suc k) h f e =
+    lowest-from-next test n at (omega arith) (rw add-zero at (f 0 (omega arith)))
+    ∙ rw (add-suc at k, ← (suc-add at k)) (lowest-from-first test n (suc at) k (omega arith) later (rw (suc-add at k, ← (add-suc at k)) e))
+  where
+    later : (i : ℕ) → i < k → test (suc at + i) ≡ false
+    later i l = rw (suc-add at i, ← (add-suc at i)) (f (suc i) (omega arith))
 
 -- a search that has come to r, of n numbers, has passed none that passes the test
 abbrev pub Searched : (ℕ → Bool) → ℕ → ℕ → Type 0

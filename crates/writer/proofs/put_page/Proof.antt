@@ -16,9 +16,8 @@ use Rattle.subdivision.specs.Sheet.{Sheet, sheetOf}
 use Rattle.frames.specs.Digits.{wordOf}
 use Rattle.frames.specs.Texts.{frameText, framesText, pairNumbers, edgeNumbers, headNumbers, pageText}
 use Rattle.theory.proofs.Written.{four-over}
-use Rattle.framing.proofs.TextFrames.{text-length}
+use Rattle.framing.proofs.FrameLengths.{frame-long, frames-long, text-length}
 use Rattle.framing.proofs.TextPages.{WordsFit}
-use Rattle.framing.proofs.WrittenFrames.{frame-long, frames-long}
 use borrow.Author.Needs.{needs}
 use Rattle.writer.proofs.put_page.Statement.{statement}
 use Rattle.writer.proofs.put_page.Tie as tie

@@ -19,7 +19,7 @@ use Rattle.subdivision.specs.Faults.{GivenBy}
 use Rattle.frames.specs.declared.Written.{Written}
 use Rattle.frames.specs.Texts.{PageWritten, pageText, writableCounts, writerRefusals, writePage, ReadsBack}
 use Rattle.theory.proofs.Decide.{means, denies}
-use Rattle.framing.proofs.TextFrames.{text-length}
+use Rattle.framing.proofs.FrameLengths.{text-length}
 use Rattle.framing.proofs.TextPages.{WordsFit}
 use Rattle.writer.proofs.Promises.{verdict, refuses, writes, refused-1, refused-33, not-refused, refused-exactly, untouched, back}
 use borrow.Author.Needs.{needs}

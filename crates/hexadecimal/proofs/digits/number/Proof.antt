@@ -1,24 +1,19 @@
 -- The loop's invariant: the value is that of the digits read so far, below 16 to their number. The measure is what is left.
-use mathlib.Core.Path.{_≡_, refl, sym, ap, _∙_}
-use Prim.Native.Nat.{ℕ, _≤_, _<_, _-_, _+_, _*_, _^_}
-use native.Mathlib.Nat.{one-le-pow, zero-lt-suc, mul-le-mul-left, pow-succ'}
+use mathlib.Core.Path.{_≡_, refl, ap, _∙_}
+use Prim.Native.Nat.{ℕ, suc, _≤_, _<_, _-_, _+_, _*_, _^_}
+use native.Mathlib.Nat.{zero-lt-suc, pow-succ'}
 use native.Mathlib.Numerals.{add-one}
 use native.Mathlib.Omega.{arith}
 use borrow.Author.Needs.{needs}
 use lib.ListN.{getD}
-use lib.Pow.{pow-add}
 use Rattle.frames.specs.Digits.{digitValue, number}
+use Rattle.framing.proofs.Widths.{pow-grows}
 use Rattle.hexadecimal.proofs.digits.number.Statement.{statement}
 use Rattle.hexadecimal.proofs.digits.number.Tie as tie
 
 -- a power of 16 that eight digits can reach
 sixteens : (i : ℕ) → i < 8 → 16 * 16 ^ i ≤ 4294967296
-sixteens i h =
-    let all : 1 + i + (7 - i) ≡ 8 = omega arith in
-    let split : 16 ^ 8 ≡ 16 ^ (1 + i) * 16 ^ (7 - i) = ap (λ k. 16 ^ k) (sym all) ∙ pow-add 16 (1 + i) (7 - i) in
-    let first : 16 ^ (1 + i) ≡ 16 * 16 ^ i = pow-add 16 1 i in
-    let some : 0 < 16 ^ (7 - i) = one-le-pow (7 - i) 16 (zero-lt-suc 15) in
-    omega (arith, split, first, mul-le-mul-left (16 ^ (1 + i)) some)
+sixteens i h = rw pow-succ' at (pow-grows 16 (suc i) 8 (zero-lt-suc 15) h)
 
 abbrev Inv-loop : tie.InvT-loop
 Inv-loop page at count value₀ i₀ value i = (i ≤ count) × ((value ≡ number page at i) × (value < 16 ^ i))

@@ -8,7 +8,8 @@ use Rattle.subdivision.specs.Lists.{over}
 use Rattle.frames.specs.Lines.{newline}
 use Rattle.frames.specs.Texts.{numbersText, frameText}
 use Rattle.theory.proofs.Written.{over-one, length-over}
-use Rattle.framing.proofs.WrittenFrames.{frame-long, frame-written}
+use Rattle.framing.proofs.FrameLengths.{frame-long}
+use Rattle.framing.proofs.WrittenFrames.{frame-written}
 use borrow.Author.Needs.{needs}
 use Rattle.writer.proofs.lines.put_frame.Statement.{statement}
 use Rattle.writer.proofs.lines.put_frame.Tie as tie
