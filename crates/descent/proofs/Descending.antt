@@ -20,17 +20,13 @@ use Rattle.subdivision.specs.Layout.{zoneWord}
 use Rattle.subdivision.specs.Sheet.{Sheet, edgeCount, zoneCount}
 use Rattle.subdivision.specs.Descent.{LookUps, Turn, onward, answered, damaged, onEdge, turn, indexLookUps, indexDescent}
 use Rattle.subdivision.specs.Descent as defined
-use Rattle.theory.proofs.Dyadic.{bits-le}
+use Rattle.theory.proofs.Dyadic.{bits-le, few-edges}
 use Rattle.theory.proofs.Descents.{turnsLeft, turn-sound, turn-falls, leads, Rest, start-rest, rest-onward, rest-ends, answered-counts, descent-counts}
 use Rattle.descent.specs.declared.Descent.{Descent}
 use Rattle.descent.specs.declared.Step.{Step}
 use Rattle.descent.specs.declared.Step.the-variants.{Son, Past, On, Damaged}
 use Rattle.descent.specs.Steps.{stateOf, arrivedFound, foundBy, trailOf}
 use Rattle.descent.proofs.Steps.{Follows}
-
--- the limits leave so few edges to examine
-pub few-edges : (n : ℕ) → n ≤ maxZones → bits (n - 1) ≤ maxExamined
-few-edges n h = bits-le maxExamined (n - 1) (omega arith)
 
 -- the edges examined so far: the front of the array
 abbrev listed : Descent → List ℕ → List ℕ

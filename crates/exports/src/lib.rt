@@ -3,6 +3,7 @@
 use frames::Page;
 use frames::Written;
 use hexadecimal::signs::word_of;
+use ledger::Month;
 use subdivision::Answer;
 use subdivision::Verdict;
 ghost use mathlib.Core.Path.{_≡_};
@@ -13,6 +14,8 @@ ghost use Rattle.frames.specs.Answers.{pageValues, writtenValues};
 ghost use Rattle.frames.specs.Pages.{readPage};
 ghost use Rattle.frames.specs.Texts.{writePage};
 ghost use Rattle.frames.specs.Placing.{placePage};
+ghost use Rattle.ledger.specs.Answers.{monthValues};
+ghost use Rattle.ledger.specs.Months.{samplesOf, lentOf, monthOf};
 
 // Opens a sheet: `out` is the refusal's number and the item that it names, 0 0 where the sheet is
 // opened; then the first 3n + m + 1 words of `index` are its index.
@@ -153,5 +156,50 @@ pub extern "C" fn tw_place_page(page: &[u8], text: &mut [u8], out: &mut [u64; 2]
     match placing::place_page(page, text) {
         Written::Refused(refusal) => *out = [refusal as u64, 0],
         Written::Text(length) => *out = [0, length as u64],
+    }
+}
+
+// Judges a month: `out` is the refusal's number and the item that it names, 0 0 where the month is judged; then the numbers of taken
+// samples on a boundary and off the sheet, which are listed at the fronts of `boundary` and `off`. Each zone has three words of
+// `results` and, where it has a mean, its place of `means`.
+#[no_mangle]
+pub extern "C" fn tw_month(
+    west: i32,
+    east: i32,
+    vertices: &[i32],
+    edges: &[u32],
+    zones: u32,
+    index: &[u32],
+    points: &[i32],
+    kinds: &[u32],
+    values: &[f64],
+    permits: &[f64],
+    boundary: &mut [u32],
+    off: &mut [u32],
+    results: &mut [u32],
+    means: &mut [f64],
+    out: &mut [u32; 4],
+)
+    ensures month { λ _. ⌜ now (out .exit) ≡ monthValues (monthOf (sheetOf west east (now (vertices .entry)) (now (edges .entry)) zones) (now (index .entry)) (samplesOf (now (points .entry)) (now (kinds .entry)) (now (values .entry))) (now (permits .entry)) (lentOf (now (boundary .entry)) (now (off .entry)) (now (results .entry)) (now (means .entry))) .month) ⌝ }
+    ensures left { λ _. ⌜ lentOf (now (boundary .exit)) (now (off .exit)) (now (results .exit)) (now (means .exit)) ≡ monthOf (sheetOf west east (now (vertices .entry)) (now (edges .entry)) zones) (now (index .entry)) (samplesOf (now (points .entry)) (now (kinds .entry)) (now (values .entry))) (now (permits .entry)) (lentOf (now (boundary .entry)) (now (off .entry)) (now (results .entry)) (now (means .entry))) .lent ⌝ }
+{
+    match months::judge_month(
+        west,
+        east,
+        vertices,
+        edges,
+        zones,
+        index,
+        points,
+        kinds,
+        values,
+        permits,
+        boundary,
+        off,
+        results,
+        means,
+    ) {
+        Month::Judged(on, away) => *out = [0, 0, on, away],
+        Month::Refused(number, item) => *out = [number, item, 0, 0],
     }
 }

@@ -11,6 +11,7 @@ use borrow.Author.Tests.{le-leb, lt-leb, eq-eqb, ne-eqb}
 use lib.Arith.{half-le, bin-ind, le-zero, lt-one, mod-mul}
 use lib.Bits.{bitXor, xor-step, xor-self, xor-shr, xor-add-and, and-le-l}
 use lib.Dec.{leb, eqb}
+use Rattle.subdivision.specs.Limits.{maxZones, maxExamined}
 use Rattle.subdivision.specs.Dyadic.{bitsIn, bits, topBitIn, topBit, lowBitIn, lowBit, lcaIn, lca}
 
 pub le-or-lt : (a b : ℕ) → (a ≤ b) ⊎ (b < a)
@@ -92,6 +93,10 @@ bits-le (suc b) k h =
     (λ (z : k ≤ 0). rw (le-zero z, bits-zero) zero-le)
     (λ p. rw (bits-half k p) (suc-le-suc (bits-le b (k / 2) (omega (arith, pow-suc 2 b)))))
     (le-or-lt k 0)
+
+-- the limits leave so few edges to examine
+pub few-edges : (n : ℕ) → n ≤ maxZones → bits (n - 1) ≤ maxExamined
+few-edges n h = bits-le maxExamined (n - 1) (omega arith)
 
 pub lt-pow-bits : (k : ℕ) → k < 2 ^ bits k
 lt-pow-bits =

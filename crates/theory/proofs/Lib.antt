@@ -53,6 +53,7 @@ pub mod Repeats
 pub mod SameDescent
 pub mod Scale
 pub mod Scaling
+pub mod SearchAnswers
 pub mod SearchRefusals
 pub mod Searches
 pub mod Separators

@@ -3,12 +3,17 @@
 pub mod damage;
 pub mod drawings;
 pub mod faults;
+pub mod json;
+pub mod kept;
+pub mod ledger;
+pub mod months;
 pub mod pages;
 pub mod paper;
 pub mod plain;
 pub mod sheets;
 pub mod texts;
 
+use ledger::Month;
 use pages::{Lent, Page};
 use sheets::Sheet;
 
@@ -48,6 +53,13 @@ pub mod exported {
             points: *const i32, points_len: usize, text: *mut u8, text_len: usize, out: *mut u64,
         );
         pub fn tw_place_page(page: *const u8, page_len: usize, text: *mut u8, text_len: usize, out: *mut u64);
+        pub fn tw_month(
+            west: i32, east: i32, vertices: *const i32, vertices_len: usize, edges: *const u32, edges_len: usize, zones: u32,
+            index: *const u32, index_len: usize, points: *const i32, points_len: usize, kinds: *const u32, kinds_len: usize,
+            values: *const f64, values_len: usize, permits: *const f64, permits_len: usize,
+            boundary: *mut u32, boundary_len: usize, off: *mut u32, off_len: usize,
+            results: *mut u32, results_len: usize, means: *mut f64, means_len: usize, out: *mut u32,
+        );
     }
 }
 
@@ -145,6 +157,25 @@ pub fn write_page(page: &Page, text: &mut [u8]) -> [u64; 2] {
 pub fn place_page(page: &[u8], text: &mut [u8]) -> [u64; 2] {
     let mut out = [u64::MAX; 2];
     unsafe { exported::tw_place_page(page.as_ptr(), page.len(), text.as_mut_ptr(), text.len(), out.as_mut_ptr()) };
+    out
+}
+
+/// Keeps the ledger of a month in the fronts of lent tables: the refusal's number and item, 0 0 for a good month, then how many samples
+/// are on a boundary and how many off the sheet.
+pub fn month(m: &Month, lent: &mut ledger::Lent) -> [u32; 4] {
+    let mut out = [u32::MAX; 4];
+    let (s, room) = (&m.sheet, m.room);
+    let (boundary, off) = (&mut lent.boundary[..room.boundary], &mut lent.off[..room.off]);
+    let (results, means) = (&mut lent.results[..room.results], &mut lent.means[..room.means]);
+    unsafe {
+        exported::tw_month(
+            s.west, s.east, s.vertices.as_ptr(), s.vertices.len(), s.edges.as_ptr(), s.edges.len(), s.zones,
+            m.index.as_ptr(), m.index.len(), m.points.as_ptr(), m.points.len(), m.kinds.as_ptr(), m.kinds.len(),
+            m.values.as_ptr(), m.values.len(), m.permits.as_ptr(), m.permits.len(),
+            boundary.as_mut_ptr(), boundary.len(), off.as_mut_ptr(), off.len(),
+            results.as_mut_ptr(), results.len(), means.as_mut_ptr().cast(), means.len(), out.as_mut_ptr(),
+        )
+    };
     out
 }
 

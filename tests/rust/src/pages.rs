@@ -113,7 +113,7 @@ pub fn read(page: &[u8]) -> Result<Page, Refusal> {
 }
 
 /// What is written, over the front of what was lent.
-fn over<T: Copy>(written: &[T], lent: &[T]) -> Vec<T> {
+pub(crate) fn over<T: Copy>(written: &[T], lent: &[T]) -> Vec<T> {
     [written, &lent[written.len()..]].concat()
 }
 

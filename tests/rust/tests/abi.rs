@@ -1,8 +1,9 @@
 //! The C ABI as its header has it: pointers with length 0, the words of `out`, and the stack that a call takes.
 use std::{ptr, thread};
-use thawweasel_tests::exported::{tw_open, tw_place_page, tw_read, tw_read_page, tw_search, tw_write_page};
+use thawweasel_tests::exported::{tw_month, tw_open, tw_place_page, tw_read, tw_read_page, tw_search, tw_write_page};
+use thawweasel_tests::ledger::{self, MOST};
 use thawweasel_tests::pages::{self, Lent, Page, ROOM};
-use thawweasel_tests::{open, place_page, read, read_page, search, sheets, sheets::lens, write_page, Random};
+use thawweasel_tests::{lent, month, months, open, place_page, read, read_page, search, sheets, sheets::lens, write_page, Random};
 
 /// What a word holds before it is lent.
 const LENT: u32 = 0xA5A5_A5A5;
@@ -94,6 +95,44 @@ fn so_many_words_of_out_are_written_for_a_page_and_no_more() {
 }
 
 #[test]
+fn a_pointer_with_length_0_to_a_month_is_not_read() {
+    let (v, e, words, floats) = (ptr::null::<i32>(), ptr::null::<u32>(), ptr::null_mut::<u32>(), ptr::null_mut::<f64>());
+    let (index, permits) = ([0; 4], [10.0, 1.0]);
+    let (i, p) = (index.as_ptr(), permits.as_ptr());
+    let (mut results, mut means, mut out) = ([LENT; 3], [7.0], [LENT; 4]);
+    let (r, m, o) = (results.as_mut_ptr(), means.as_mut_ptr(), out.as_mut_ptr());
+    unsafe { tw_month(-7, 9, v, 0, e, 0, 1, e, 0, v, 0, e, 0, floats, 0, floats, 0, words, 0, words, 0, words, 0, floats, 0, o) };
+    assert_eq!(out, [3, 0, 0, 0]);
+    unsafe { tw_month(-7, 9, v, 0, e, 0, 1, i, 4, v, 0, e, 0, floats, 0, floats, 0, words, 0, words, 0, words, 0, floats, 0, o) };
+    assert_eq!(out, [43, 0, 0, 0]);
+    unsafe { tw_month(-7, 9, v, 0, e, 0, 1, i, 4, v, 0, e, 0, floats, 0, p, 2, words, 0, words, 0, r, 3, m, 1, o) };
+    assert_eq!((out, results, means), ([0; 4], [0; 3], [7.0]), "a month of no sample");
+}
+
+#[test]
+fn so_many_words_are_written_for_a_month_and_no_more() {
+    let s = lens();
+    let (v, e, index) = (&s.vertices, &s.edges, [0, 1, 2, 0, 1, 2, 0, 0, 2, 4, 2, 3, 0, 1]);
+    let (points, kinds, values, permits) = ([2, 0, 1, 1, 5, 0], [1, 2, 1], [0.5, 3.0, 4.0], [10.0, 1.0].repeat(3));
+    for (samples, said, first) in [(3, [0, 0, 1, 1], [1, 2]), (2, [43, 0, 0, 0], [LENT, LENT])] {
+        let (mut boundary, mut off, mut results, mut means, mut out) = ([LENT; 5], [LENT; 5], [LENT; 11], [7.0; 5], [LENT; 6]);
+        let lists = (boundary.as_mut_ptr(), off.as_mut_ptr(), results.as_mut_ptr(), means.as_mut_ptr());
+        unsafe {
+            tw_month(
+                0, 4, v.as_ptr(), 8, e.as_ptr(), 16, 3, index.as_ptr(), 14, points.as_ptr(), 6, kinds.as_ptr(), samples,
+                values.as_ptr(), 3, permits.as_ptr(), 6, lists.0, 3, lists.1, 3, lists.2, 9, lists.3, 3, out.as_mut_ptr(),
+            )
+        };
+        assert_eq!(out[..], then_lent(&said, 2));
+        assert_eq!(boundary[..], then_lent(&first[..1], 4));
+        assert_eq!(off[..], then_lent(&first[1..], 4));
+        let good = said[0] == 0;
+        assert_eq!(results[..], if good { then_lent(&[0, 0, 0, 1, 0, 1, 0, 0, 0], 2) } else { then_lent(&[], 11) });
+        assert_eq!(means, if good { [7.0, 0.5, 7.0, 7.0, 7.0] } else { [7.0; 5] });
+    }
+}
+
+#[test]
 fn a_stack_of_128_kib_is_enough() {
     let mut r = Random::new("stack", 20);
     for s in [sheets::largest(&mut r), sheets::fan()] {
@@ -120,6 +159,21 @@ fn a_stack_of_256_kib_is_enough_for_a_page() {
             let written = text[..length].to_vec();
             assert_eq!(place_page(&written, &mut text)[0], 0);
             assert!(!text.starts_with(b"refused"));
+        };
+        thread::Builder::new().stack_size(256 << 10).spawn(calls).unwrap().join().unwrap();
+    }
+}
+
+#[test]
+fn a_stack_of_256_kib_is_enough_for_a_month() {
+    let mut r = Random::new("stack for a month", 23);
+    for sheet in [sheets::largest(&mut r), sheets::fan()] {
+        let mut index = vec![0; sheet.need()];
+        assert_eq!(open(&sheet, &mut index), [0, 0]);
+        let m = months::sound(&mut r, &sheet, &index, MOST);
+        let calls = move || {
+            let (boundary, off, results) = (lent(m.room.boundary), lent(m.room.off), lent(m.room.results));
+            assert_eq!(month(&m, &mut ledger::Lent { boundary, off, results, means: vec![0; m.room.means] })[..2], [0, 0]);
         };
         thread::Builder::new().stack_size(256 << 10).spawn(calls).unwrap().join().unwrap();
     }

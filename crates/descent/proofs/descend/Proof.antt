@@ -6,12 +6,13 @@ use borrow.Author.Needs.{needs}
 use Rattle.subdivision.specs.declared.Found.{Found}
 use Rattle.subdivision.specs.Sheet.{Sheet}
 use Rattle.theory.proofs.Descents.{turnsLeft}
+use Rattle.theory.proofs.Dyadic.{few-edges}
 use Rattle.descent.specs.declared.Descent.{Descent}
 use Rattle.descent.specs.declared.Step.{Step}
 use Rattle.descent.specs.declared.Step.the-variants.{Son, Past, On, Damaged}
 use Rattle.probes.specs.Margins.{sheetAt}
 use Rattle.descent.specs.Steps.{stateOf}
-use Rattle.descent.proofs.Descending.{few-edges, Reached, Ended, Leads, start-reached, step-allowed, step-leads, arrived-ended}
+use Rattle.descent.proofs.Descending.{Reached, Ended, Leads, start-reached, step-allowed, step-leads, arrived-ended}
 use Rattle.descent.proofs.descend.Statement.{statement}
 use Rattle.descent.proofs.descend.Tie as tie
 

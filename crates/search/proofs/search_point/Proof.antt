@@ -21,11 +21,12 @@ use Rattle.subdivision.specs.Rules.{inRange}
 use Rattle.subdivision.specs.Refusals.{judged, countsKept, limitRefusals}
 use Rattle.subdivision.specs.Reading.{onSheet}
 use Rattle.subdivision.specs.Descent.{indexDescent}
+use Rattle.theory.proofs.Dyadic.{few-edges}
 use Rattle.theory.proofs.Judgement.{passed-keeps}
 use Rattle.probes.specs.Margins.{unshifted, sheetAt}
 use Rattle.descent.specs.Steps.{foundBy, trailOf}
 use Rattle.probes.proofs.Margins.{unshifted-shifted}
-use Rattle.descent.proofs.Descending.{few-edges, Ended, ended-long, ended-few}
+use Rattle.descent.proofs.Descending.{Ended, ended-long, ended-few}
 use Rattle.search.proofs.Promises.{Promised, refused-by-limits, no-room, off-sheet, no-trail, descended}
 use Rattle.search.proofs.search_point.Statement.{statement}
 use Rattle.search.proofs.search_point.Tie as tie

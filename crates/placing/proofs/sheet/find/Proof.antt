@@ -8,7 +8,7 @@ use Rattle.subdivision.specs.declared.Answer.{Answer}
 use Rattle.subdivision.specs.Sheet.{sheetOf}
 use Rattle.subdivision.specs.Calls.{searching}
 use Rattle.theory.proofs.ThirdDemand.{searched-is-read-everywhere}
-use Rattle.descent.proofs.Descending.{few-edges}
+use Rattle.theory.proofs.Dyadic.{few-edges}
 use borrow.Author.Needs.{needs}
 use Rattle.placing.proofs.sheet.find.Statement.{statement}
 use Rattle.placing.proofs.sheet.find.Tie as tie

@@ -1,0 +1,1 @@
+// Laws of the monthly ledger and of its floats, with no functions.
