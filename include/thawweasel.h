@@ -14,8 +14,9 @@
  *   - a pointer with a length other than 0 points to that many readable words, and writable ones where it is not const;
  *   - `out` points to as many writable words as its parameter says;
  *   - every pointer is aligned for its words;
- *   - what a call may write (`index` of tw_open, `trail`, the tables of tw_read_page, `text`, `out`) overlaps nothing else that it
- *     is handed, and no other thread reads or writes it, or writes anything that is handed, during the call;
+ *   - what a call may write (`index` of tw_open, `trail`, the tables of tw_read_page, `text`, the last four tables of tw_month,
+ *     `out`) overlaps nothing else that it is handed, and no other thread reads or writes it, or writes anything that is handed,
+ *     during the call;
  *   - the stack has room: 128 KiB is enough for tw_open, tw_read and tw_search, 256 KiB for the others.
  * A pointer with length 0 is never read or written, and may be null.
  */
@@ -69,6 +70,53 @@ void tw_search(int32_t west, int32_t east,
                int32_t x, int32_t y,
                uint32_t *trail, size_t trail_len,
                uint32_t out[5]);
+
+/* The kinds of reading that a sample may have. */
+enum {
+    TW_NOT_TAKEN = 0,
+    TW_MEASURED = 1,
+    TW_BELOW_DETECTION = 2
+};
+
+/* The judgements of a zone. */
+enum {
+    TW_NO_MEAN = 0,
+    TW_WITHIN = 1,
+    TW_OVER = 2
+};
+
+/* Judges a month of samples, each placed as tw_search places its point by the words of index: refusals 1, 2, 3, 43, 42, 40, 22 and
+ * 41, in that order.
+ * A sample is two words of points (x, y), a kind and a value in mg/L: what was measured, or the detection limit that it was below;
+ * the value of a sample not taken is not looked at. A zone's permit is two values, its limit and its detection floor; values past
+ * 2n are not looked at. Values, limits and floors are greater than 0 and at most 1,000.
+ *   43      more than 4,096 samples; points_len other than twice kinds_len, or values_len other than kinds_len; boundary_len or
+ *           off_len less than kinds_len; permits_len less than 2n, results_len less than 3n or means_len less than n
+ *   42 z    the permit of zone z is out of range, not-a-number included
+ *   40 k    sample k has another kind, or a value out of range, not-a-number included
+ *   22 k    the search for sample k, which was taken, says 22
+ *   41 k    sample k is below detection, lies in a zone, and its detection limit is above that zone's floor
+ * Each names the lowest, 43 names 0, and a refusal leaves every lent word as it was.
+ * out: refusal number and item, 0 0 for a month that is judged; then the numbers of taken samples on an edge or vertex and of those
+ * that 20 turns away, 0 0 on a refusal. Their numbers are written, in sample order, to the fronts of boundary and off; they are in
+ * no zone. Each zone has three words of results: how many taken samples lie in it, how many of those are below detection, and its
+ * judgement. Its mean is the sum of what was measured or of the detection limits, added in sample order as doubles, divided once by
+ * their number; it is over where it is greater than the limit. The mean of one sample is its value, bit for bit. The place among the
+ * means of a zone with no sample is as it was, and so is every word past the lists, the 3n results and the n means. */
+void tw_month(int32_t west, int32_t east,
+              const int32_t *vertices, size_t vertices_len,
+              const uint32_t *edges, size_t edges_len,
+              uint32_t zones,
+              const uint32_t *index, size_t index_len,
+              const int32_t *points, size_t points_len,
+              const uint32_t *kinds, size_t kinds_len,
+              const double *values, size_t values_len,
+              const double *permits, size_t permits_len,
+              uint32_t *boundary, size_t boundary_len,
+              uint32_t *off, size_t off_len,
+              uint32_t *results, size_t results_len,
+              double *means, size_t means_len,
+              uint32_t out[4]);
 
 /* Reads a page: refusals 30, 31, 32 and 1 as its earliest line that is at fault has them, then 33 where a table is too short.
  * out: refusal number and line, 0 0 for a good page; then W and E as their two's complement words, V, m, n and the number of
