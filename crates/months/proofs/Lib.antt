@@ -1,6 +1,5 @@
--- Laws of a month as it is judged: by the words of its samples, zone by zone, and line by line of its refusals.
+-- Laws of a month as it is judged: line by line of its refusals, by the words of its samples, and its promises.
 pub mod Lines
 pub mod Month
 pub mod Promised
 pub mod Words
-pub mod ZoneWords

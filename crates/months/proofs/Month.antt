@@ -31,10 +31,10 @@ use Rattle.theory.proofs.SearchAnswers.{searched-zone, searched-refusals}
 use Rattle.accounting.proofs.Tests.{not-passes}
 use Rattle.accounting.proofs.Those.{those-same}
 use Rattle.months.specs.Lines.{lentRefusals, placedRefusals}
-use Rattle.months.specs.Words.{boundaryWord, offWord, damagedWord, sampleWord, coarse, hasWord}
-use Rattle.months.specs.Zones.{tallyBy, wordsBy, meansBy, coarsest, leftBy}
+use Rattle.samples.specs.Words.{boundaryWord, offWord, damagedWord, sampleWord, coarse, hasWord}
+use Rattle.samples.specs.Zones.{tallyBy, wordsBy, meansBy, coarsest, leftBy}
 use Rattle.months.proofs.Words.{Fair, zone-word, boundary-word, off-word, damaged-word, coarse-word, taken-word}
-use Rattle.months.proofs.ZoneWords.{words-same, means-same}
+use Rattle.samples.proofs.ZoneWords.{words-same, means-same}
 
 module _ (s : Sheet) (index : List ℕ) (t : Samples) (permits : List Float) (lent : Lent) where
   -- the answer for a sample

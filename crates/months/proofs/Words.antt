@@ -13,7 +13,7 @@ use Rattle.subdivision.specs.Limits.{maxZones}
 use Rattle.ledger.specs.declared.Reading.{Reading}
 use Rattle.ledger.specs.Readings.{permitOf}
 use Rattle.ledger.specs.Months.{inZone, onBoundary, offSheet, damaged, aboveFloor, tooCoarse}
-use Rattle.months.specs.Words.{untakenWord, boundaryWord, offWord, damagedWord, answerWord, sampleWord, aboveFloorOf, coarse}
+use Rattle.samples.specs.Words.{untakenWord, boundaryWord, offWord, damagedWord, answerWord, sampleWord, aboveFloorOf, coarse}
 
 -- an answer with a zone of the sheet, or no refusal but 20 and 22
 abbrev pub Fair : ℕ → Answer → Type 0

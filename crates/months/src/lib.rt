@@ -1,13 +1,13 @@
 // The monthly ledger: the samples of a month are placed by the quick search, and each zone is judged by those that lie in it.
 use crate::checks::check_lent;
-use crate::checks::first_coarse;
-use crate::lists::list_those;
-use crate::places::BOUNDARY;
-use crate::places::OFF_SHEET;
-use crate::places::place_samples;
-use crate::zones::judge_zones;
 use ledger::MAX_SAMPLES;
 use ledger::Month;
+use samples::faults::first_coarse;
+use samples::lists::list_those;
+use samples::places::BOUNDARY;
+use samples::places::OFF_SHEET;
+use samples::places::place_samples;
+use samples::zones::judge_zones;
 use subdivision::Verdict;
 ghost use mathlib.Core.Path.{_≡_};
 ghost use mathlib.Core.List.{[]};
@@ -19,12 +19,9 @@ ghost use Rattle.subdivision.specs.Faults.{GivenBy};
 ghost use Rattle.ledger.specs.declared.Month.{Month};
 ghost use Rattle.ledger.specs.Months.{maxSamples, samplesOf, lentOf, monthRefusals, searchedAt, monthOf};
 ghost use Rattle.ledger.specs.Promises.{leftOf, OnePlace, CountsSamples, OneValue, OutsideChangesNothing, ReadPlainly};
-ghost use Rattle.months.specs.Zones.{leftBy};
+ghost use Rattle.samples.specs.Zones.{leftBy};
 
 mod checks;
-mod lists;
-mod places;
-mod zones;
 
 // Judges a month: the taken samples on a boundary and those off the sheet are listed, each zone has its count, its count below
 // detection and its judgement written, and its mean where it has one; or it gives one of the refusals 1, 2, 3, 43, 42, 40, 22 and

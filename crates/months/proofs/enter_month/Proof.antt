@@ -5,7 +5,7 @@ use native.Mathlib.Omega.{arith}
 use Rattle.ledger.specs.declared.Month.{Month}
 use Rattle.ledger.specs.Months.{Samples, Lent, samplesOf, lentOf}
 use Rattle.ledger.specs.Promises.{leftOf}
-use Rattle.months.proofs.ZoneWords.{left-coarse, left-fine}
+use Rattle.samples.proofs.ZoneWords.{left-coarse, left-fine}
 use borrow.Author.Needs.{needs}
 use Rattle.months.proofs.enter_month.Statement.{statement}
 use Rattle.months.proofs.enter_month.Tie as tie

@@ -19,8 +19,8 @@ use Rattle.theory.proofs.Lists.{length-tab}
 use Rattle.theory.proofs.Lowest.{lowest-le}
 use Rattle.theory.proofs.Written.{length-put}
 use Rattle.months.specs.Lines.{lentRefusals}
-use Rattle.months.specs.Words.{sampleWord, damagedWord}
-use Rattle.months.specs.Zones.{leftBy}
+use Rattle.samples.specs.Words.{sampleWord, damagedWord}
+use Rattle.samples.specs.Zones.{leftBy}
 use Rattle.months.proofs.Month.{by-lent, by-damage, by-places}
 use Rattle.months.proofs.Promised.{Promised, promised}
 use borrow.Author.Needs.{needs}
