@@ -29,7 +29,7 @@ choice P true q r x y = x
 choice P false q r x y = y
 
 -- the reading of a lent kind and value has what the four readings of that value have
-pub reading-has : (P : Reading → Type 0) (kind : ℕ) (value : Float)
+reading-has : (P : Reading → Type 0) (kind : ℕ) (value : Float)
     → P Reading.NotTaken → P (Reading.Measured value) → P (Reading.BelowDetection value) → P Reading.Unknown → P (readingOf kind value)
 unfolding readingOf
 reading-has P kind value n m b u =

@@ -28,7 +28,7 @@ bits-of-value f (fin t m e) s a c C v =
     ap (λ (z : Bool). written f z (m * up e * l / down e)) (v .0) ∙ ap (written f s) (div-same (m * up e * l) (down e) (a * l) c (down-pos e) C cross)
 
 -- two values that the format holds, of one sign and one size, are one value
-pub value-unique : (f : Format) (x y : Float) (s : Bool) (a c : ℕ) → 0 < c → T (fits f x) → T (fits f y) → HasValue x s a c → HasValue y s a c → x ≡ y
+value-unique : (f : Format) (x y : Float) (s : Bool) (a c : ℕ) → 0 < c → T (fits f x) → T (fits f y) → HasValue x s a c → HasValue y s a c → x ≡ y
 value-unique f x y s a c C p q v w =
     sym (ofBits-toBits f x p) ∙ ap (ofBits f) (bits-of-value f x s a c C v ∙ sym (bits-of-value f y s a c C w)) ∙ ofBits-toBits f y q
 
@@ -51,7 +51,7 @@ exact f s m e a b c =
     round-exact f s (m * up e) (down e) m j (down-pos e) a (lt-of-mul-lt-mul-right (down e) k) h
 
 -- a value that the format holds rounds to itself
-pub round-own : (f : Format) (s : Bool) (m : ℕ) (e : ℤ) → T (fits f (fin s m e)) → round f s (m * up e) (down e) ≡ fin s m e
+round-own : (f : Format) (s : Bool) (m : ℕ) (e : ℤ) → T (fits f (fin s m e)) → round f s (m * up e) (down e) ≡ fin s m e
 unfolding fits
 round-own f s m e t =
     let a = m * up e in
@@ -71,7 +71,7 @@ round-own f s m e t =
         (ltb→lt (suc m * up e) (2 ^ suc (emax f) * down e) (and-r (A && B && C) D t))
 
 -- the integer one as a float is written with the significand one and the exponent zero
-pub one-is : (f : Format) → ofInt f (pos 1) ≡ fin false 1 (pos 0)
+one-is : (f : Format) → ofInt f (pos 1) ≡ fin false 1 (pos 0)
 unfolding ofInt
 one-is binary32 = refl
 one-is binary64 = refl

@@ -118,7 +118,7 @@ module _ (answer : ℕ → Answer) (t : Samples) where
 
   module _ (permits : List Float) where
     -- three words a zone
-    pub result-words-length : (n : ℕ) → length (resultWords answer t permits n) ≡ 3 * n
+    result-words-length : (n : ℕ) → length (resultWords answer t permits n) ≡ 3 * n
     result-words-length zero = refl
     result-words-length (suc n) =
         omega (arith, length-append (resultWords answer t permits n) (zoneResults answer t permits n), result-words-length n)
@@ -148,7 +148,7 @@ module _ (answer : ℕ → Answer) (t : Samples) where
     -- ---- one value
 
     -- as many means are left as are lent
-    pub means-left-length : (means : List Float) (n : ℕ) → length (meansLeft answer t permits means n) ≡ length means
+    means-left-length : (means : List Float) (n : ℕ) → length (meansLeft answer t permits means n) ≡ length means
     means-left-length means zero = refl
     means-left-length means (suc n) = means-length (judgementOf answer t permits n) (meansLeft answer t permits means n) n ∙ means-left-length means n
 
@@ -196,7 +196,7 @@ module _ (answer : ℕ → Answer) (t : Samples) where
 
 module _ (answer other : ℕ → Answer) (t u : Samples) (same : SameInZones answer t other u) where
   -- what is entered for each zone is the same without them
-  pub same-tally : (z : ℕ) → tallyOf answer t z ≡ tallyOf other u z
+  same-tally : (z : ℕ) → tallyOf answer t z ≡ tallyOf other u z
   same-tally z =
       entering-same (readingAt t) (readingAt u) (takenAnd answer t (inZone z)) (takenAnd other u (inZone z)) (sampleCount t) (λ k h. go k (same .1 k h))
       ∙ ap (λ n. entering (readingAt u) noneEntered (those (takenAnd other u (inZone z)) n)) (same .0)

@@ -24,7 +24,7 @@ alone b k = elim b [ true ↦ k ∷ [] | false ↦ [] ]
 
 module _ (test : ℕ → Bool) where
   -- one number more comes at the end, where it passes
-  pub those-more : (k : ℕ) → those test (k + 1) ≡ those test k ++ (elim (test k) [ true ↦ k ∷ [] | false ↦ [] ])
+  those-more : (k : ℕ) → those test (k + 1) ≡ those test k ++ (elim (test k) [ true ↦ k ∷ [] | false ↦ [] ])
   those-more k = rw (add-one k)
 
   -- one number more, which passes
@@ -52,7 +52,7 @@ those-length test (suc n) = omega (arith, those-length test n, length-append (th
 -- ---- how often a number is among them
 
 -- in one list after another a number is as often as in both
-pub times-append : (k : ℕ) (ks js : List ℕ) → times k (ks ++ js) ≡ times k ks + times k js
+times-append : (k : ℕ) (ks js : List ℕ) → times k (ks ++ js) ≡ times k ks + times k js
 times-append k [] js = sym (zero-add (times k js))
 times-append k (j ∷ ks) js = go (eqb j k) (times-append k ks js)
   where
@@ -72,7 +72,7 @@ times-other k n true f = rw (ne-eqb n k f, times)
 times-other k n false f = refl
 
 -- a number past the count is not among them
-pub times-past : (test : ℕ → Bool) (n k : ℕ) → n ≤ k → times k (those test n) ≡ 0
+times-past : (test : ℕ → Bool) (n k : ℕ) → n ≤ k → times k (those test n) ≡ 0
 times-past test zero k h = refl
 times-past test (suc n) k h =
     omega (arith, times-append k (those test n) (alone (test n) n), times-past test n k (omega arith), times-other k n (test n) (λ e. omega arith))

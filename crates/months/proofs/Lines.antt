@@ -1,12 +1,12 @@
 -- The refusals before a sample is placed, in turn.
-use mathlib.Core.Path.{_≡_, sym, ap, _∙_}
+use mathlib.Core.Path.{_≡_, _∙_}
 use mathlib.Core.Bool.{true, false, not}
 use mathlib.Core.List.{List, [], _∷_}
 use Prim.Native.Nat.{ℕ, _<_, _≤_}
 use native.Mathlib.Omega.{arith}
 use lib.Ieee.{Float}
 use Rattle.subdivision.specs.declared.Verdict.{Verdict}
-use Rattle.subdivision.specs.Formula.{Formula, holds}
+use Rattle.subdivision.specs.Formula.{holds}
 use Rattle.subdivision.specs.Layout.{indexNeed}
 use Rattle.subdivision.specs.Lowest.{lowest}
 use Rattle.subdivision.specs.Sheet.{Sheet, edgeCount, zoneCount}
@@ -14,16 +14,8 @@ use Rattle.subdivision.specs.Refusals.{Refusal, unnamed, forEach, judged, limit
 use Rattle.ledger.specs.Readings.{passes, readingSound, permitOf, permitSound}
 use Rattle.ledger.specs.Months.{Samples, Lent, sampleCount, readingAt, roomKept}
 use Rattle.theory.proofs.Decide.{held, fails}
-use Rattle.theory.proofs.Judgement.{refused-first, passed-first, none-named, judged-for-each-kept, judged-for-each-broken}
+use Rattle.theory.proofs.Judgement.{refused-first, passed-first, judged-unnamed-kept, judged-unnamed-broken, judged-for-each-kept, judged-for-each-broken}
 use Rattle.months.specs.Lines.{lentRefusals}
-
--- a line that names nothing, where it refuses
-refuses : (number : ℕ) (kept : Formula) (rs : List Refusal) → holds kept ≡ false → judged (unnamed number kept ∷ rs) ≡ Verdict.Refused number 0
-refuses number kept rs e = rw (e, judged) (ap (Verdict.Refused number) (sym (none-named number kept)))
-
--- and where it is kept
-goes-on : (number : ℕ) (kept : Formula) (rs : List Refusal) → holds kept ≡ true → judged (unnamed number kept ∷ rs) ≡ judged rs
-goes-on number kept rs e = rw (e, judged)
 
 module _ (s : Sheet) (words : ℕ) (t : Samples) (permits : List Float) (lent : Lent) where
   -- 40
@@ -56,19 +48,19 @@ module _ (s : Sheet) (words : ℕ) (t : Samples) (permits : List Float) (lent : 
 
     -- 3
     pub no-index : words < indexNeed (zoneCount s) (edgeCount s) → judged (lentRefusals s words t permits lent) ≡ Verdict.Refused 3 0
-    no-index h = past-limits ∙ refuses 3 (roomRefusal s words .kept) own (fails (roomRefusal s words .kept) (λ k. omega arith))
+    no-index h = past-limits ∙ judged-unnamed-broken 3 (roomRefusal s words .kept) own (fails (roomRefusal s words .kept) (λ k. omega arith))
 
     module _ (room : indexNeed (zoneCount s) (edgeCount s) ≤ words) where
       past-index : judged (lentRefusals s words t permits lent) ≡ judged own
-      past-index = past-limits ∙ goes-on 3 (roomRefusal s words .kept) own (held (roomRefusal s words .kept) room)
+      past-index = past-limits ∙ judged-unnamed-kept 3 (roomRefusal s words .kept) own (held (roomRefusal s words .kept) room)
 
       -- 43
       pub no-room : holds (roomKept t permits s lent) ≡ false → judged (lentRefusals s words t permits lent) ≡ Verdict.Refused 43 0
-      no-room e = past-index ∙ refuses 43 (roomKept t permits s lent) allowed e
+      no-room e = past-index ∙ judged-unnamed-broken 43 (roomKept t permits s lent) allowed e
 
       module _ (has : holds (roomKept t permits s lent) ≡ true) where
         past-room : judged (lentRefusals s words t permits lent) ≡ judged allowed
-        past-room = past-index ∙ goes-on 43 (roomKept t permits s lent) allowed has
+        past-room = past-index ∙ judged-unnamed-kept 43 (roomKept t permits s lent) allowed has
 
         -- 42
         pub by-permit : badPermit < zoneCount s → judged (lentRefusals s words t permits lent) ≡ Verdict.Refused 42 badPermit

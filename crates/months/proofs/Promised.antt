@@ -1,7 +1,7 @@
 -- What a month promises, from its definition and its refusals in turn.
 use mathlib.Core.Path.{_≡_, refl, sym, ap, _∙_, subst}
 use mathlib.Core.Bool.{Bool, true, false, not, false≢true}
-use mathlib.Core.List.{List}
+use mathlib.Core.List.{List, _∷_}
 use mathlib.Core.Logic.{_⊎_, inl, inr, _↔_}
 use Prim.Native.Nat.{ℕ, _<_}
 use borrow.Author.Tests.{not-true, eq-eqb}
@@ -10,16 +10,15 @@ use lib.Ieee.{Float, nan, binary64, fits}
 use lib.ListN.{length, getD}
 use Rattle.subdivision.specs.declared.Answer.{Answer}
 use Rattle.subdivision.specs.declared.Verdict.{Verdict}
-use Rattle.subdivision.specs.Formula.{Formula, Means}
 use Rattle.subdivision.specs.Sheet.{Sheet, zoneCount}
-use Rattle.subdivision.specs.Refusals.{Refusal, names, unnamed, forEach, judged, countsKept, marginsKept, roomRefusal}
-use Rattle.subdivision.specs.Faults.{Named, GivenBy, AllKept}
+use Rattle.subdivision.specs.Refusals.{Refusal, judged, limitRefusals, roomRefusal}
+use Rattle.subdivision.specs.Faults.{GivenBy, AllKept}
 use Rattle.ledger.specs.declared.Month.{Month}
 use Rattle.ledger.specs.Readings.{passes, taken, readingSound, permitOf, permitSound}
-use Rattle.ledger.specs.Months.{Samples, Lent, Left, sampleCount, readingAt, damaged, tooCoarse, takenAnd, roomKept, entered, monthRefusals, searchedAt, monthOf}
+use Rattle.ledger.specs.Months.{Samples, Lent, Left, sampleCount, readingAt, damaged, tooCoarse, takenAnd, roomKept, ownRefusals, entered, monthRefusals, searchedAt, monthOf}
 use Rattle.ledger.specs.Promises.{OnePlace, CountsSamples, OneValue, OutsideChangesNothing, ReadPlainly}
-use Rattle.theory.proofs.Faults.{Sound, given-says, says-given}
-use Rattle.theory.proofs.Judgement.{passed-keeps, kept-passes, none-named, names-lowest}
+use Rattle.theory.proofs.Faults.{Sound, given-exactly, sound-append, unnamed-sound, each-sound, limits-sound}
+use Rattle.theory.proofs.Judgement.{passed-keeps, kept-passes}
 use Rattle.accounting.proofs.Promises.{Placed, one-place, counts-samples, one-value, outside-changes-nothing, read-plainly}
 use Rattle.accounting.proofs.Tests.{passes-means}
 use Rattle.months.specs.Lines.{lentRefusals}
@@ -36,15 +35,6 @@ fair-placed n (Answer.Refused number item) f d = go (f .1 number item refl)
     go : (number ≡ 20) ⊎ (number ≡ 22) → Placed n (Answer.Refused number item)
     go (inl e) = inr (inr (eq-eqb number 20 e))
     go (inr e) = absurd (false≢true (sym d ∙ eq-eqb number 22 e))
-
--- a line that names nothing names nothing
-nothing-named : (number : ℕ) (kept : Formula) → (Means kept → ⊥) → Named (unnamed number kept) (names (unnamed number kept))
-nothing-named number kept f = inl (refl, sym (none-named number kept))
-
--- a line for each item names the lowest
-lowest-named : (number items : ℕ) (clause : ℕ → Formula) → (Means (forEach number items clause .kept) → ⊥)
-    → Named (forEach number items clause) (names (forEach number items clause))
-lowest-named number items clause f = inr (names-lowest number items clause f)
 
 module _ (s : Sheet) (index : List ℕ) (t : Samples) (permits : List Float) (lent : Lent) where
   -- the answer for a sample
@@ -66,9 +56,11 @@ module _ (s : Sheet) (index : List ℕ) (t : Samples) (permits : List Float) (le
       × (((boundary off : ℕ) → left .month ≡ Month.Judged boundary off → OutsideChangesNothing s index t permits lent (left .lent .results) (left .lent .means))
       × ReadPlainly s index t permits lent left)))))
 
+  -- the judgement names the right items
   sound : Sound lines
   sound =
-      (nothing-named 1 (countsKept s), λ k1. (nothing-named 2 (marginsKept s), λ k2. (nothing-named 3 (roomRefusal s (length index) .kept), λ k3. (nothing-named 43 (roomKept t permits s lent), λ k43. (lowest-named 42 (zoneCount s) (λ z. permitSound (permitOf permits z)), λ k42. (lowest-named 40 (sampleCount t) (λ k. passes (readingSound (readingAt t k))), λ k40. (lowest-named 22 (sampleCount t) (λ k. passes (not (takenAnd answer t damaged k))), λ k22. (lowest-named 41 (sampleCount t) (λ k. passes (not (tooCoarse permits (readingAt t k) (answer k)))), λ k41. tt))))))))
+      sound-append (limitRefusals s) (roomRefusal s (length index) ∷ ownRefusals answer t permits s lent) (limits-sound s)
+      (λ f. unnamed-sound 3 (roomRefusal s (length index) .kept), λ k3. (λ f. unnamed-sound 43 (roomKept t permits s lent), λ k43. (each-sound 42 (zoneCount s) (λ z. permitSound (permitOf permits z)), λ k42. (each-sound 40 (sampleCount t) (λ k. passes (readingSound (readingAt t k))), λ k40. (each-sound 22 (sampleCount t) (λ k. passes (not (takenAnd answer t damaged k))), λ k22. (each-sound 41 (sampleCount t) (λ k. passes (not (tooCoarse permits (readingAt t k) (answer k)))), λ k41. tt))))))
 
   -- by a line: the month is its refusal, and nothing is written
   abbrev ByLine : Type 0
@@ -87,13 +79,15 @@ module _ (s : Sheet) (index : List ℕ) (t : Samples) (permits : List Float) (le
 
   -- a refusal is given exactly when its own line says so
   refused-exactly : (number item : ℕ) → (monthOf s index t permits lent .month ≡ Month.Refused number item) ↔ GivenBy lines number item
-  refused-exactly number item = (λ e. there e comes, λ g. ap (λ l. l .month) (month-refused s index t permits lent number item (says-given lines number item g)))
+  refused-exactly number item = (λ e. there e comes, λ g. ap (λ l. l .month) (month-refused s index t permits lent number item (given .1 g)))
     where
+      given : (judged lines ≡ Verdict.Refused number item) ↔ GivenBy lines number item
+      given = given-exactly lines sound number item
+
       there : monthOf s index t permits lent .month ≡ Month.Refused number item → ByLine ⊎ ByNone → GivenBy lines number item
       there e (inl (n, i, (j, m))) =
           let same : Month.Refused n i ≡ Month.Refused number item = sym (ap (λ l. l .month) m) ∙ e in
-          let verdict : Verdict.Refused n i ≡ Verdict.Refused number item = cc in
-          given-says lines sound number item (j ∙ verdict)
+          let verdict : Verdict.Refused n i ≡ Verdict.Refused number item = cc in given .0 (j ∙ verdict)
       there e (inr (k, m)) =
           let other : entered answer t permits s lent .month ≡ Month.Refused number item = sym (ap (λ l. l .month) m) ∙ e in
           absurd (false≢true cc)

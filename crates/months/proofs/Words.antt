@@ -60,7 +60,7 @@ module _ (n : ℕ) (few : n ≤ maxZones) where
       go (inr e) = rw e refl
 
   -- a word with a floor is a zone's
-  pub floor-word : (permits : List Float) (limit : Float) (a : Answer) → Fair n a → aboveFloorOf permits n limit (answerWord a) ≡ aboveFloor permits limit a
+  floor-word : (permits : List Float) (limit : Float) (a : Answer) → Fair n a → aboveFloorOf permits n limit (answerWord a) ≡ aboveFloor permits limit a
   floor-word permits limit a f = go a f
     where
       where-zone : ℕ → Bool → Bool

@@ -59,16 +59,22 @@ says-given (r ∷ rs) number item (inl f) =
 says-given (r ∷ rs) number item (inr g) = rw (held (r .kept) (g .0), judged) (says-given rs number item (g .1))
 
 -- lines whose judgement names the right items give each refusal exactly when its own line says so
-given-exactly : (rs : List Refusal) → Sound rs → (number item : ℕ) → (judged rs ≡ Verdict.Refused number item) ↔ GivenBy rs number item
+pub given-exactly : (rs : List Refusal) → Sound rs → (number item : ℕ) → (judged rs ≡ Verdict.Refused number item) ↔ GivenBy rs number item
 given-exactly rs s number item = (given-says rs s number item, says-given rs number item)
 
-sound-append : (rs qs : List Refusal) → Sound rs → Sound qs → Sound (rs ++ qs)
+-- lines after lines
+pub sound-append : (rs qs : List Refusal) → Sound rs → Sound qs → Sound (rs ++ qs)
 sound-append [] qs s t = t
 sound-append (r ∷ rs) qs s t = (s .0, λ k. sound-append rs qs (s .1 k) t)
 
 -- a line that names nothing names nothing
-unnamed-sound : (number : ℕ) (kept : Formula) → Named (unnamed number kept) (names (unnamed number kept))
+pub unnamed-sound : (number : ℕ) (kept : Formula) → Named (unnamed number kept) (names (unnamed number kept))
 unnamed-sound number kept = inl (refl, sym (none-named number kept))
+
+-- a line for each item names the lowest that breaks its clause
+pub each-sound : (number items : ℕ) (clause : ℕ → Formula) → (Means (forEach number items clause .kept) → ⊥)
+    → Named (forEach number items clause) (names (forEach number items clause))
+each-sound number items clause f = inr (names-lowest number items clause f)
 
 module _ (s : Sheet) where
   -- refusal 13 names the lowest zone with a circle at it or below it
@@ -88,13 +94,10 @@ module _ (s : Sheet) where
 
   rules-sound : Sound (ruleRefusals s)
   rules-sound =
-      (each 4 (vertexCount s) (vertexInside s), λ k4. (each 5 (vertexCount s) (vertexNew s), λ k5. (each 6 (edgeCount s) (edgeNames s), λ k6. (each 7 (edgeCount s) (edgeRuns s), λ k7. (each 8 (edgeCount s) (zonesDiffer s), λ k8. (each 9 (vertexCount s) (vertexRegular s), λ k9. (each 10 (edgeCount s) (edgeClear s), λ k10. (each 11 (vertexCount s) (namesAgree s), λ k11. (each 12 (zoneCount s) (zoneNamed s), λ k12. ((λ f. inr (circle-lowest (λ e h. k6 e h .1) f)), λ k13. tt))))))))))
-    where
-      each : (number items : ℕ) (clause : ℕ → Formula) → (Means (forEach number items clause .kept) → ⊥)
-          → Named (forEach number items clause) (names (forEach number items clause))
-      each number items clause f = inr (names-lowest number items clause f)
+      (each-sound 4 (vertexCount s) (vertexInside s), λ k4. (each-sound 5 (vertexCount s) (vertexNew s), λ k5. (each-sound 6 (edgeCount s) (edgeNames s), λ k6. (each-sound 7 (edgeCount s) (edgeRuns s), λ k7. (each-sound 8 (edgeCount s) (zonesDiffer s), λ k8. (each-sound 9 (vertexCount s) (vertexRegular s), λ k9. (each-sound 10 (edgeCount s) (edgeClear s), λ k10. (each-sound 11 (vertexCount s) (namesAgree s), λ k11. (each-sound 12 (zoneCount s) (zoneNamed s), λ k12. ((λ f. inr (circle-lowest (λ e h. k6 e h .1) f)), λ k13. tt))))))))))
 
-  limits-sound : Sound (limitRefusals s)
+  -- the lines of the limits
+  pub limits-sound : Sound (limitRefusals s)
   limits-sound = (λ f. unnamed-sound 1 (countsKept s), λ k1. (λ f. unnamed-sound 2 (marginsKept s), λ k2. tt))
 
   table-sound : Sound (tableRefusals s)

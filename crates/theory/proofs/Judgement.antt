@@ -1,5 +1,5 @@
 -- The judgement of the tables against the written refusals: when it passes a sheet, and which refusal it gives.
-use mathlib.Core.Path.{_≡_, refl, ap, _∙_}
+use mathlib.Core.Path.{_≡_, refl, sym, ap, _∙_}
 use mathlib.Core.Bool.{Bool, true, false, not}
 use mathlib.Core.List.{List, [], _∷_, _++_}
 use mathlib.Core.Logic.{_↔_}
@@ -83,6 +83,14 @@ passed-first rs qs e = judged-append rs qs ∙ (λ i. elim (e i) [ Passed ↦ ju
 -- a refusal that names nothing names 0
 pub none-named : (number : ℕ) (kept : Formula) → 0 ≡ names (unnamed number kept)
 none-named number kept = omega (arith, lowest-le (λ k. not (holds kept)) 0)
+
+-- a line that names nothing is passed where it is kept
+pub judged-unnamed-kept : (number : ℕ) (kept : Formula) (rs : List Refusal) → holds kept ≡ true → judged (unnamed number kept ∷ rs) ≡ judged rs
+judged-unnamed-kept number kept rs e = rw (e, judged)
+
+-- and is given where it is not, with no item
+pub judged-unnamed-broken : (number : ℕ) (kept : Formula) (rs : List Refusal) → holds kept ≡ false → judged (unnamed number kept ∷ rs) ≡ Verdict.Refused number 0
+judged-unnamed-broken number kept rs e = rw (e, judged) (ap (Verdict.Refused number) (sym (none-named number kept)))
 
 -- where no item breaks the clause, every item keeps it
 pub lowest-all-means : (items : ℕ) (clause : ℕ → Formula) → lowest (λ k. not (holds (clause k))) items ≡ items
