@@ -49,12 +49,13 @@ fn tally_zone(kinds: &[u32], values: &[f64], places: &[u32], z: u32) -> Tally
         below: 0,
         sum: 0.0,
     };
-    let mut k = 0;
-    while k < places.len() {
+    let mut left = places.len();
+    while 0 < left {
+        let k = places.len() - left;
         if places[k] == z {
             tally = enter(tally, reading_of(kinds[k], values[k]));
         }
-        k += 1;
+        left -= 1;
     }
     tally
 }
