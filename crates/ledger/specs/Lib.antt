@@ -5,3 +5,4 @@ pub mod Months
 pub mod Promises
 pub mod Answers
 pub mod WorkedMonths
+pub mod Slips

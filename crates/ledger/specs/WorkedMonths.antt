@@ -1,10 +1,9 @@
 -- Worked months on the lens sheet of document 01, computed from the definitions that the month's contract cites.
-use mathlib.Core.Path.{_≡_, refl, sym, ap, _∙_, subst}
-use mathlib.Core.Bool.{true, false, true≢false}
+use mathlib.Core.Path.{_≡_, refl}
 use mathlib.Core.List.{List, [], _∷_}
 use Prim.Native.Nat.{ℕ}
 use lib.IntN.{pos}
-use lib.Ieee.{Float, nan, binary64, add, div, lt, eq, le, ofInt, ofBits}
+use lib.Ieee.{Float, nan, binary64, add, div, lt, le, ofInt, ofBits}
 use lib.ListN.{set, take}
 use Rattle.subdivision.specs.Dyadic.{bits, topBit, lowBit, lca}
 use Rattle.subdivision.specs.Lowest.{lowest}
@@ -13,22 +12,22 @@ use Rattle.subdivision.specs.Descent.{descent, indexDescent}
 use Rattle.subdivision.specs.Calls.{searching}
 use Rattle.subdivision.specs.WorkedTable.{lens, lensIndex}
 use Rattle.ledger.specs.declared.Month.{Month}
-use Rattle.ledger.specs.declared.Reading.{Reading}
-use Rattle.ledger.specs.declared.Tally.{Tally}
 use Rattle.ledger.specs.Readings.{nothing, inRange, readingOf}
-use Rattle.ledger.specs.Tallies.{noneEntered, withValue, enter, mean, judge}
-use Rattle.ledger.specs.Months.{Samples, Lent, lentOf, readingAt, tallyOf, searchedAt, monthBy, monthOf}
+use Rattle.ledger.specs.Tallies.{judge}
+use Rattle.ledger.specs.Months.{Samples, Lent, lentOf, searchedAt, monthBy, monthOf}
 use Rattle.ledger.specs.Promises.{leftOf}
 
--- 0.1, 0.2 and 0.3 mg/L as doubles
-abbrev a : Float
-a = ofBits binary64 0x3fb9_9999_9999_999a
+-- 0.1 mg/L as a double
+abbrev pub oneTenth : Float
+oneTenth = ofBits binary64 0x3fb9_9999_9999_999a
 
-abbrev b : Float
-b = ofBits binary64 0x3fc9_9999_9999_999a
+-- 0.2 mg/L
+abbrev pub twoTenths : Float
+twoTenths = ofBits binary64 0x3fc9_9999_9999_999a
 
-abbrev c : Float
-c = ofBits binary64 0x3fd3_3333_3333_3333
+-- 0.3 mg/L
+abbrev pub threeTenths : Float
+threeTenths = ofBits binary64 0x3fd3_3333_3333_3333
 
 -- seven samples: 0.1, 0.2 and 0.3 in zone 1, the last below detection; one on vertex 1, one on edge 0, one off the sheet, one not taken
 unfoldable pub samples : Samples
@@ -36,23 +35,23 @@ samples =
     record {
       points = pos 2 ∷ pos 0 ∷ pos 2 ∷ pos 2 ∷ pos 2 ∷ pos 0 ∷ pos 1 ∷ pos 1 ∷ pos 9 ∷ pos 9 ∷ pos 1 ∷ pos 5 ∷ pos 2 ∷ pos 0 ∷ [];
       kinds = 1 ∷ 1 ∷ 1 ∷ 2 ∷ 1 ∷ 0 ∷ 2 ∷ [];
-      values = a ∷ c ∷ b ∷ c ∷ c ∷ nan ∷ c ∷ [];
+      values = oneTenth ∷ threeTenths ∷ twoTenths ∷ threeTenths ∷ threeTenths ∷ nan ∷ threeTenths ∷ [];
     }
 
 -- permits of 0.2 mg/L for each zone, with floors of 0.3
 unfoldable pub permits : List Float
-permits = b ∷ c ∷ b ∷ c ∷ b ∷ c ∷ []
+permits = twoTenths ∷ threeTenths ∷ twoTenths ∷ threeTenths ∷ twoTenths ∷ threeTenths ∷ []
 
 -- lent words
 unfoldable pub lent : Lent
-lent = lentOf (90 ∷ 91 ∷ 92 ∷ 93 ∷ 94 ∷ 95 ∷ 96 ∷ []) (80 ∷ 81 ∷ 82 ∷ 83 ∷ 84 ∷ 85 ∷ 86 ∷ []) (70 ∷ 71 ∷ 72 ∷ 73 ∷ 74 ∷ 75 ∷ 76 ∷ 77 ∷ 78 ∷ 79 ∷ []) (a ∷ a ∷ a ∷ a ∷ [])
+lent = lentOf (90 ∷ 91 ∷ 92 ∷ 93 ∷ 94 ∷ 95 ∷ 96 ∷ []) (80 ∷ 81 ∷ 82 ∷ 83 ∷ 84 ∷ 85 ∷ 86 ∷ []) (70 ∷ 71 ∷ 72 ∷ 73 ∷ 74 ∷ 75 ∷ 76 ∷ 77 ∷ 78 ∷ 79 ∷ []) (oneTenth ∷ oneTenth ∷ oneTenth ∷ oneTenth ∷ [])
 
 -- the month: two samples on boundaries, one off the sheet; zone 1 has three, one below detection, and is over by its last bit, which depends on the order
 pub worked-month
     : monthOf lens lensIndex samples permits lent
     ≡ leftOf (Month.Judged 2 1) (1 ∷ 3 ∷ 92 ∷ 93 ∷ 94 ∷ 95 ∷ 96 ∷ []) (4 ∷ 81 ∷ 82 ∷ 83 ∷ 84 ∷ 85 ∷ 86 ∷ [])
-    (0 ∷ 0 ∷ 0 ∷ 3 ∷ 1 ∷ 2 ∷ 0 ∷ 0 ∷ 0 ∷ 79 ∷ []) (a ∷ ofBits binary64 0x3fc9_9999_9999_999b ∷ a ∷ a ∷ [])
-unfolding samples permits lent lens lensIndex monthBy searchedAt searching descent indexDescent bits topBit lowBit lca lowest inRange readingOf judge add div lt eq le ofInt ofBits
+    (0 ∷ 0 ∷ 0 ∷ 3 ∷ 1 ∷ 2 ∷ 0 ∷ 0 ∷ 0 ∷ 79 ∷ []) (oneTenth ∷ ofBits binary64 0x3fc9_9999_9999_999b ∷ oneTenth ∷ oneTenth ∷ [])
+unfolding samples permits lent lens lensIndex monthBy searchedAt searching descent indexDescent bits topBit lowBit lca lowest inRange readingOf judge add div lt le ofInt ofBits
 worked-month = refl
 
 -- ---- the same month with one fault
@@ -84,34 +83,5 @@ pub worked-refusals
     ∷ []
     ≡ Month.Refused 1 0 ∷ Month.Refused 2 0 ∷ Month.Refused 3 0 ∷ Month.Refused 43 0 ∷ Month.Refused 42 1 ∷ Month.Refused 40 3 ∷ Month.Refused 40 4 ∷ Month.Refused 40 5 ∷
     Month.Refused 22 0 ∷ Month.Refused 41 6 ∷ []
-unfolding samples permits lent lens lensIndex monthBy searchedAt searching descent indexDescent bits topBit lowBit lca lowest inRange readingOf judge add div lt eq le ofInt ofBits
+unfolding samples permits lent lens lensIndex monthBy searchedAt searching descent indexDescent bits topBit lowBit lca lowest inRange readingOf judge add div lt le ofInt ofBits
 worked-refusals = refl
-
--- ---- wrong ledgers, told apart
-
--- a sum that is not the one defined
-differs : (x y : Float) → eq x y ≡ false → eq y y ≡ true → x ≡ y → ⊥
-differs x y e f p = true≢false (sym f ∙ subst (λ q. eq q y ≡ false) p e)
-
--- samples entered from the last to the first
-abbrev enteringBackwards : (ℕ → Reading) → Tally → List ℕ → Tally
-enteringBackwards reading t [] = t
-enteringBackwards reading t (k ∷ ks) = enter (enteringBackwards reading t ks) (reading k)
-
--- a ledger that adds in reverse order gives another mean for zone 1 of the worked month
-pub reverse-breaks : enteringBackwards (readingAt samples) noneEntered (0 ∷ 2 ∷ 6 ∷ []) ≡ tallyOf (searchedAt lens lensIndex samples) samples 1 → ⊥
-unfolding samples permits lent lens lensIndex monthBy searchedAt searching descent indexDescent bits topBit lowBit lca lowest inRange readingOf judge add div lt eq le ofInt ofBits
-reverse-breaks p =
-    differs (mean (enteringBackwards (readingAt samples) noneEntered (0 ∷ 2 ∷ 6 ∷ []))) (mean (tallyOf (searchedAt lens lensIndex samples) samples 1)) refl refl (ap mean p)
-
--- a reading below detection entered at its zone's floor
-abbrev enterAtFloor : Float → Tally → Reading → Tally
-enterAtFloor floor t Reading.NotTaken = t
-enterAtFloor floor t (Reading.Measured value) = withValue t value 0
-enterAtFloor floor t (Reading.BelowDetection limit) = withValue t floor 1
-enterAtFloor floor t Reading.Unknown = t
-
--- a ledger that enters it so gives another sum, where the floor is above the limit
-pub floor-breaks : enterAtFloor c noneEntered (Reading.BelowDetection b) ≡ enter noneEntered (Reading.BelowDetection b) → ⊥
-unfolding eq ofBits
-floor-breaks p = differs c b refl refl (ap (λ t. t .sum) p)
