@@ -1,2 +1,3 @@
 -- What the exported functions promise beyond the definitions of `subdivision`.
 pub mod Flags
+pub mod Repeated

@@ -1,5 +1,6 @@
 // Leaves under the C ABI, for the tests in tests/rust. A `&[T]` is a pointer and then a length. What a
 // caller owes (valid pointers, no overlap) no proof covers.
+use subdivision::MAX_VERTICES;
 use subdivision::Side;
 ghost use mathlib.Core.Path.{_≡_};
 ghost use lib.ListN.{length, drop};
@@ -9,6 +10,7 @@ ghost use Rattle.subdivision.specs.Sheet.{shifted, segmentOf};
 ghost use Rattle.subdivision.specs.Lines.{covers, sideAt, conflict};
 ghost use Rattle.subdivision.specs.Answers.{sideValue};
 ghost use Rattle.leaves.specs.Flags.{flag, sortFits, sortLeaves};
+ghost use Rattle.leaves.specs.Repeated.{repeatAmong};
 
 // The bit length of k.
 #[no_mangle]
@@ -58,6 +60,19 @@ pub extern "C" fn tw_sort(keys: &[u64], order: &mut [u32], scratch: &mut [u32]) 
     }
     sorting::order::sort(keys, order, scratch);
     1
+}
+
+// Refusal 5: the lowest vertex that is the same point as an earlier one, and the number of vertices
+// where none is; 2^32 - 1 where there are more than the limit, which are not looked at.
+#[no_mangle]
+pub extern "C" fn tw_first_repeat(vertices: &[i32]) -> u32
+    ensures { λ r. ⌜ r ≡ repeatAmong (now (vertices .entry)) ⌝ }
+{
+    let count = vertices.len() / 2;
+    if MAX_VERTICES < count {
+        return 4294967295;
+    }
+    repeats::first_repeat(vertices, count as u32)
 }
 
 // Edge e covers the abscissa x on a sheet with the eastern margin `east`: 1, or 0.

@@ -14,6 +14,7 @@ ghost use Rattle.subdivision.specs.Formula.{holds};
 ghost use Rattle.subdivision.specs.Lists.{tab};
 ghost use Rattle.subdivision.specs.Lowest.{lowest};
 ghost use Rattle.subdivision.specs.Order.{SortedBelow, inOrder};
+ghost use Rattle.subdivision.specs.PointOrder.{ByPoint};
 ghost use Rattle.subdivision.specs.Sheet.{sheetOf, vertexX, vertexY};
 ghost use Rattle.subdivision.specs.Rules.{vertexNew};
 ghost use Rattle.theory.proofs.Groups.{pairKey};
@@ -25,6 +26,7 @@ pub fn point_order(vertices: &[i32], order: &mut [u32])
     requires { ⌜ length (now order) ≤ maxVertices ⌝ }
     ensures sorted { λ _. ⌜ now (order .exit) ≡ inOrder (λ v. pairKey (vertexX (now (vertices .entry)) v) (vertexY (now (vertices .entry)) v)) (length (now (order .entry))) ⌝ }
     ensures once { λ _. ⌜ SortedBelow (λ v. pairKey (vertexX (now (vertices .entry)) v) (vertexY (now (vertices .entry)) v)) (length (now (order .entry))) (now (order .exit)) ⌝ }
+    ensures by_point { λ _. ⌜ ByPoint (now (vertices .entry)) (now (order .exit)) ⌝ }
 {
     let mut keys = [0u64; MAX_VERTICES];
     let mut scratch = [0u32; MAX_VERTICES];
@@ -35,7 +37,8 @@ pub fn point_order(vertices: &[i32], order: &mut [u32])
 // Writes the key of each vertex to its place, and past the last vertex that of the point (0, 0).
 fn point_keys(vertices: &[i32], keys: &mut [u64])
     requires { ⌜ length (now keys) ≤ maxVertices ⌝ }
-    ensures { λ _. ⌜ now (keys .exit) ≡ tab (pointKey (now (vertices .entry))) (length (now (keys .entry))) ⌝ }
+    ensures keys { λ _. ⌜ now (keys .exit) ≡ tab (pointKey (now (vertices .entry))) (length (now (keys .entry))) ⌝ }
+    ensures fits { λ _. ⌜ ((v : ℕ) → v < length (now (keys .entry)) → vertexY (now (vertices .entry)) v < 4294967296) ⌝ }
 {
     let mut v = 0;
     while v < keys.len() {

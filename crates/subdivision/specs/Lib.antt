@@ -6,6 +6,7 @@ pub mod Lists
 pub mod Dyadic
 pub mod Order
 pub mod Sheet
+pub mod PointOrder
 pub mod Lines
 pub mod Neighbours
 pub mod Rules
@@ -23,5 +24,6 @@ pub mod Engine
 pub mod Calls
 pub mod Answers
 pub mod WorkedTable
+pub mod WorkedOrder
 pub mod Slips
 pub mod WorkedRefusals

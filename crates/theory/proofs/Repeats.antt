@@ -14,6 +14,7 @@ use borrow.Author.Tests.{eqb-true, eq-eqb, not-true}
 use Rattle.subdivision.specs.Formula.{Formula, both, isEqual, notSo, holds, Means}
 use Rattle.subdivision.specs.Lowest.{lowest}
 use Rattle.subdivision.specs.Order.{Before, SortedBelow}
+use Rattle.subdivision.specs.PointOrder.{PointBefore, ByPoint}
 use Rattle.subdivision.specs.Sheet.{Sheet, sheetOf, vertexCount, xOf, yOf, vertexX, vertexY}
 use Rattle.subdivision.specs.Rules.{vertexNew}
 use Rattle.subdivision.specs.Accepted.{Rule1}
@@ -46,6 +47,22 @@ alike vertices l i = eqb (pointKey vertices (getD l i 0)) (pointKey vertices (af
 -- equal keys are keys of equal pairs
 pub pair-key-same : (a b c d : ℕ) → b < 2 ^ 32 → d < 2 ^ 32 → pairKey a b ≡ pairKey c d → (a ≡ c) × (b ≡ d)
 pair-key-same a b c d h k e = (omega arith, omega arith)
+
+-- by key, then by number is by x, then by y, then by number, where each y fits the key's lower half
+point-before : (vertices : List ℤ) (u v : ℕ) → vertexY vertices u < 2 ^ 32 → vertexY vertices v < 2 ^ 32 → Before (pointKey vertices) u v → PointBefore vertices u v
+point-before vertices u v h k (inl p) = ⊎-elim (λ e. inr (e, inl (omega arith))) inl (eq-or-lt-of-le west)
+  where
+    west : vertexX vertices u ≤ vertexX vertices v
+    west = omega arith
+point-before vertices u v h k (inr (e, p)) =
+    let same = pair-key-same (vertexX vertices u) (vertexY vertices u) (vertexX vertices v) (vertexY vertices v) h k e in
+    inr (same .0, inr (same .1, p))
+
+-- the vertices sorted by their keys are in order of their points
+pub sorted-by-point : (vertices : List ℤ) (n : ℕ) (l : List ℕ) → ((v : ℕ) → v < n → vertexY vertices v < 2 ^ 32)
+    → SortedBelow (pointKey vertices) n l → ByPoint vertices l
+sorted-by-point vertices n l fits s i j h k =
+    point-before vertices (getD l i 0) (getD l j 0) (fits (getD l i 0) (s .numbers i (omega (arith, s .long)))) (fits (getD l j 0) (s .numbers j (omega (arith, s .long)))) (s .ascending i j h (omega (arith, s .long)))
 
 module _ (key : ℕ → ℕ) (n : ℕ) (l : List ℕ) (s : SortedBelow key n l) where
   -- of two neighbours with one key the first has the lower number

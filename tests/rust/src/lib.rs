@@ -25,6 +25,7 @@ pub mod exported {
         pub fn tw_top_bit(k: u32) -> u32;
         pub fn tw_lca(i: u32, j: u32) -> u32;
         pub fn tw_sort(keys: *const u64, keys_len: usize, order: *mut u32, order_len: usize, scratch: *mut u32, scratch_len: usize) -> u32;
+        pub fn tw_first_repeat(vertices: *const i32, vertices_len: usize) -> u32;
         pub fn tw_covers(vertices: *const i32, vertices_len: usize, edges: *const u32, edges_len: usize, east: i32, e: u32, x: i32) -> u32;
         pub fn tw_side(vertices: *const i32, vertices_len: usize, edges: *const u32, edges_len: usize, e: u32, x: i32, y: i32) -> i32;
         pub fn tw_conflict(vertices: *const i32, vertices_len: usize, edges: *const u32, edges_len: usize, e: u32, f: u32) -> u32;
@@ -77,6 +78,12 @@ pub fn lca(i: u32, j: u32) -> u32 {
 
 pub fn sort(keys: &[u64], order: &mut [u32], scratch: &mut [u32]) -> u32 {
     unsafe { exported::tw_sort(keys.as_ptr(), keys.len(), order.as_mut_ptr(), order.len(), scratch.as_mut_ptr(), scratch.len()) }
+}
+
+/// The lowest vertex that is the same point as an earlier one, the number of vertices where none is; none of more than the limit.
+pub fn first_repeat(vertices: &[i32]) -> Option<u32> {
+    let found = unsafe { exported::tw_first_repeat(vertices.as_ptr(), vertices.len()) };
+    (found != u32::MAX).then_some(found)
 }
 
 pub fn covers(vertices: &[i32], edges: &[u32], east: i32, e: u32, x: i32) -> u32 {

@@ -1,5 +1,5 @@
 //! The leaves against plain Rust, written from document 01.
-use thawweasel_tests::{bit_length, calls, conflict, covers, enough, lca, side, sort, top_bit, Random};
+use thawweasel_tests::{bit_length, calls, conflict, covers, enough, first_repeat, lca, side, sort, top_bit, Random};
 
 #[test]
 fn top_bits_have_the_listed_values() {
@@ -63,6 +63,45 @@ fn coordinate(r: &mut Random, reach: i64) -> i32 {
 }
 
 const REACHES: [i64; 6] = [2, 3, 10, 1_000_000, 1_000_000_000, i32::MAX as i64];
+
+#[test]
+fn repeats_by_all_pairs() {
+    let mut r = Random::new("repeats", 5);
+    let names = ["no repeat", "one vertex repeated", "several", "1,024 vertices", "more than 1,024", "a word over", "the ends of 32 bits"];
+    let mut seen = [0usize; 7];
+    for _ in 0..calls(4_000) {
+        let count = if r.below(8) == 0 { r.between(1_023, 1_026) as usize } else { r.below(40) as usize };
+        let reach = REACHES[r.below(6) as usize];
+        let mut vertices: Vec<i32> = (0..2 * count).map(|_| coordinate(&mut r, reach)).collect();
+        if count > 1 && r.below(2) == 0 {
+            let (from, to) = (r.below(count as u64) as usize, r.below(count as u64) as usize);
+            vertices.copy_within(2 * from..2 * from + 2, 2 * to);
+        }
+        if r.below(4) == 0 && count > 1 {
+            // a vertex that differs from another in one coordinate by one, or by the sign of both
+            let (from, to) = (r.below(count as u64) as usize, r.below(count as u64) as usize);
+            let (x, y) = (vertices[2 * from], vertices[2 * from + 1]);
+            let (p, q) = r.one(&[(x.wrapping_add(1), y), (x, y.wrapping_add(1)), (y, x), (x.wrapping_neg(), y.wrapping_neg())]);
+            (vertices[2 * to], vertices[2 * to + 1]) = (p, q);
+        }
+        if r.below(4) == 0 && count > 0 {
+            vertices[r.below(2 * count as u64) as usize] = i32::MIN;
+        }
+        let over = r.below(8) == 0;
+        if over {
+            vertices.push(r.next() as i32);
+        }
+        let repeated: Vec<usize> = (0..count).filter(|&v| (0..v).any(|u| vertices[2 * u..2 * u + 2] == vertices[2 * v..2 * v + 2])).collect();
+        let wanted = (count <= 1_024).then(|| repeated.first().map_or(count as u32, |&v| v as u32));
+        assert_eq!(first_repeat(&vertices), wanted, "{vertices:?}");
+        seen[repeated.len().min(2)] += usize::from(count <= 1_024);
+        seen[3] += usize::from(count == 1_024);
+        seen[4] += usize::from(count > 1_024);
+        seen[5] += usize::from(over);
+        seen[6] += usize::from(vertices.contains(&i32::MAX) && vertices.contains(&i32::MIN));
+    }
+    enough(&names.iter().copied().zip(seen).collect::<Vec<_>>());
+}
 
 struct Edge {
     west: u32,

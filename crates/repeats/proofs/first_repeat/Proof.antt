@@ -42,13 +42,13 @@ point-order-requires c κs = le-trans (le-of-eq (front (c .before .args .count) 
 
 array-share-prefix-order : tie.Need-array-share-prefix-order
 array-share-prefix-order c =
-    within (c .before .before .before .args .count) (c .before .before .before .pre) (c .before .point-order .last .1 .0) (c .before .point-order .ensures .1 .long)
+    within (c .before .before .before .args .count) (c .before .before .before .pre) (c .before .point-order .last .1 .0) (c .before .point-order .ensures .1 .0 .long)
 
 slice-aggregate-least-repeat : tie.Need-slice-aggregate-least-repeat
 slice-aggregate-least-repeat c =
     let order = c .before .before .point-order .last .1 .0 in
     let n = c .before .before .before .before .args .count in
-    sym (length-take-le n (order ++ drop n table) (within n (c .before .before .before .before .pre) order (c .before .before .point-order .ensures .1 .long)))
+    sym (length-take-le n (order ++ drop n table) (within n (c .before .before .before .before .pre) order (c .before .before .point-order .ensures .1 .0 .long)))
 
 least-repeat-requires : tie.Need-least-repeat-requires
 least-repeat-requires c κs = search needs
@@ -60,8 +60,8 @@ returns c =
     let key = pointKey (start .args .vertices .now) in
     let sorted = c .before .before .before .point-order in
     let order = sorted .last .1 .0 in
-    let long = sorted .ensures .1 .long in
-    let there : SortedBelow key n (take n (order ++ drop n table)) = rw (whole n (start .pre) order long) (rw (front n (start .pre)) at (sorted .ensures .1)) in
+    let long = sorted .ensures .1 .0 .long in
+    let there : SortedBelow key n (take n (order ++ drop n table)) = rw (whole n (start .pre) order long) (rw (front n (start .pre)) at (sorted .ensures .1 .0)) in
     c .least-repeat .ensures .0 ∙ least-repeat (start .args .vertices .now) n (take n (order ++ drop n table)) there (c .least-repeat .ensures .1)
 
 pub first-repeat-spec : {M : Type 1} → statement M

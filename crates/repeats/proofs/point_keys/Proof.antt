@@ -1,26 +1,29 @@
--- The loop's invariant: the first v places hold the keys of the first v vertices. The measure is what is left.
+-- The loop's invariant: the first v places hold the keys of the first v vertices, whose y's fit. The measure is what is left.
 use mathlib.Core.Path.{_≡_, refl, sym, _∙_}
-use Prim.Native.Nat.{_≤_, _<_, _-_}
+use mathlib.Core.Logic.{⊎-elim}
+use Prim.Native.Nat.{ℕ, _+_, _≤_, _<_, _-_}
+use native.Mathlib.Nat.{eq-or-lt-of-le, not-suc-le-zero}
 use native.Mathlib.Numerals.{add-one}
 use native.Mathlib.Omega.{arith}
 use borrow.Author.Needs.{needs}
 use lib.ListN.{length, take, length-set}
 use lib.Seq.{take-suc-set, take-all}
 use Rattle.subdivision.specs.Lists.{tab}
+use Rattle.subdivision.specs.Sheet.{vertexY}
 use Rattle.theory.proofs.Lists.{tab-more}
 use Rattle.theory.proofs.Repeats.{pointKey}
 use Rattle.repeats.proofs.point_keys.Statement.{statement}
 use Rattle.repeats.proofs.point_keys.Tie as tie
 
 abbrev Inv-loop : tie.InvT-loop
-Inv-loop vertices keys₀ v₀ keys v = (v ≤ length keys₀) × (length keys ≡ length keys₀) × (take v keys ≡ tab (pointKey vertices) v)
+Inv-loop vertices keys₀ v₀ keys v = (v ≤ length keys₀) × (length keys ≡ length keys₀) × (take v keys ≡ tab (pointKey vertices) v) × ((u : ℕ) → u < v → vertexY vertices u < 4294967296)
 
 abbrev μ-loop : tie.MeasureT-loop
 μ-loop vertices keys₀ v₀ keys v = length keys₀ - v
 
 loop-holds : tie.Need-loop-holds Inv-loop μ-loop
 unfolding tab
-loop-holds c = (omega arith, refl, refl)
+loop-holds c = (omega arith, refl, refl, λ u h. absurd (not-suc-le-zero h))
 
 cast-point-key : tie.Need-cast-point-key Inv-loop μ-loop
 cast-point-key c = search needs
@@ -44,8 +47,11 @@ loop-again : tie.Need-loop-again Inv-loop μ-loop
 loop-again c =
     let l = c .before .before .loop in
     let key = c .point-key .result in
+    let vertices = c .before .before .before .before .args .vertices .now in
     let inside : l .v < length (l .keys) = omega arith in
-    (omega arith, length-set (l .keys) (l .v) key ∙ l .inv .1, rw (tab-more (pointKey (c .before .before .before .before .args .vertices .now)) (l .v), add-one (l .v), take-suc-set (l .keys) (l .v) key, l .inv .2, c .point-key .ensures .0))
+    let fits : (u : ℕ) → u < l .v + 1 → vertexY vertices u < 4294967296 =
+    λ u h. ⊎-elim (λ (e : u ≡ l .v). rw e (c .point-key .ensures .1)) (l .inv .3 u) (eq-or-lt-of-le (omega arith)) in
+    (omega arith, length-set (l .keys) (l .v) key ∙ l .inv .1, rw (tab-more (pointKey vertices) (l .v), add-one (l .v), take-suc-set (l .keys) (l .v) key, l .inv .2, c .point-key .ensures .0), fits)
 
 same-length : tie.Need-same-length Inv-loop μ-loop
 same-length c = search needs
@@ -55,7 +61,7 @@ returns c =
     let l = c .before .loop in
     let all : length (l .keys) ≤ l .v = omega arith in
     let end : l .v ≡ length (c .before .before .before .args .keys .now) = omega arith in
-    sym (take-all (l .v) (l .keys) all) ∙ l .inv .2 ∙ rw end
+    (sym (take-all (l .v) (l .keys) all) ∙ l .inv .2 ∙ rw end, λ u h. l .inv .3 u (omega arith))
 
 pub point-keys-spec : {M : Type 1} → statement M
 point-keys-spec =

@@ -9,7 +9,7 @@ use Rattle.subdivision.specs.Limits.{maxVertices}
 use Rattle.subdivision.specs.Order.{SortedBelow, inOrder}
 use Rattle.theory.proofs.Keys.{sorted-by-keys}
 use Rattle.theory.proofs.Order.{sorted-below}
-use Rattle.theory.proofs.Repeats.{pointKey}
+use Rattle.theory.proofs.Repeats.{pointKey, sorted-by-point}
 use Rattle.repeats.proofs.point_order.Statement.{statement}
 use Rattle.repeats.proofs.point_order.Tie as tie
 
@@ -39,8 +39,9 @@ returns c =
     let keys = c .before .before .before .before .before .before .before .before .point-keys in
     let found = c .before .before .before .sort in
     let fits : n ≤ maxVertices = omega (arith, c .before .before .before .before .before .before .before .before .before .before .before .pre) in
-    let ordered : found .last .1 .0 ≡ inOrder key n = sorted-by-keys key (keys .last .1 .0) maxVertices n (keys .ensures) fits (found .last .1 .0) (found .ensures .0) in
-    (ordered, subst (λ (l : List ℕ). SortedBelow key n l) (sym ordered) (sorted-below key n))
+    let ordered : found .last .1 .0 ≡ inOrder key n = sorted-by-keys key (keys .last .1 .0) maxVertices n (keys .ensures .0) fits (found .last .1 .0) (found .ensures .0) in
+    let once : SortedBelow key n (found .last .1 .0) = subst (λ (l : List ℕ). SortedBelow key n l) (sym ordered) (sorted-below key n) in
+    (ordered, (once, sorted-by-point (a .vertices .now) n (found .last .1 .0) (λ v h. keys .ensures .1 v (omega arith)) once))
 
 pub point-order-spec : {M : Type 1} → statement M
 point-order-spec =

@@ -1,7 +1,7 @@
-//! How long the three calls take, beside the same checks and the same descent in plain safe Rust and beside brute force: one run,
-//! medians of rounds in which each takes its turn, and the medians of the rounds' ratios, as a table.
+//! How long the three calls and the look for repeated points take, beside the same in plain safe Rust and beside brute force: one run,
+//! medians of rounds in which each takes its turn, and the medians of the rounds' ratios, as two tables.
 use std::{hint::black_box, time::Instant};
-use thawweasel_tests::{open, paper, plain::Tables, read, search, sheets, sheets::Sheet, Random};
+use thawweasel_tests::{first_repeat, open, paper, plain::Tables, read, search, sheets, sheets::Sheet, Random};
 
 /// How often each way takes its turn.
 const ROUNDS: usize = 31;
@@ -133,6 +133,49 @@ fn walk(r: &mut Random, s: &Sheet, count: usize) -> Vec<(i32, i32)> {
     (0..count).map(|k| (along(s.west, s.east, k), along(ends[0].1, ends[1].1, k))).collect()
 }
 
+/// Times the look for repeated points on points of which no two are the same.
+fn repeats(kind: &str, points: &[(i32, i32)]) {
+    let vertices: Vec<i32> = points.iter().flat_map(|&(x, y)| [x, y]).collect();
+    let s = Sheet { west: 0, east: 1, vertices, edges: vec![], zones: 1 };
+    let (t, all) = (Tables::from(&s), Some(points.len() as u32));
+    assert_eq!((first_repeat(&s.vertices), t.repeat(), t.repeat_by_pairs()), (all, None, None));
+    row(kind, [
+        (20, Box::new(|| (0..20).for_each(|_| assert_eq!(first_repeat(black_box(&s.vertices)), all)))),
+        (20, Box::new(|| (0..20).for_each(|_| assert_eq!(black_box(&t).repeat(), None)))),
+        (4, Box::new(|| (0..4).for_each(|_| assert_eq!(black_box(&t).repeat_by_pairs(), None)))),
+    ]);
+}
+
+/// Points in order, put so that every merge of halves takes one of each in turn.
+fn interleaved(points: &[(i32, i32)]) -> Vec<(i32, i32)> {
+    if points.len() < 2 {
+        return points.to_vec();
+    }
+    let every_other = |from: usize| interleaved(&points.iter().skip(from).step_by(2).copied().collect::<Vec<_>>());
+    [every_other(0), every_other(1)].concat()
+}
+
+/// Times the look for repeated points on 1,024 of them in several orders.
+fn repeats_in_orders(r: &mut Random) {
+    println!("\n| 1,024 points | proved | plain Rust | all pairs | proved / plain | proved / all pairs |");
+    println!("|---|---|---|---|---|---|");
+    let mut heights: Vec<i32> = (0..1024).map(|k| 1_900 * (k - 512) + r.below(1_900) as i32).collect();
+    (1..heights.len()).for_each(|k| heights.swap(k, r.below(k as u64 + 1) as usize));
+    let random: Vec<_> = heights.iter().map(|&y| (r.between(-1_000_000, 1_000_000) as i32, y)).collect();
+    let mut sorted = random.clone();
+    sorted.sort();
+    let reversed: Vec<_> = sorted.iter().rev().copied().collect();
+    let one_abscissa: Vec<_> = heights.iter().map(|&y| (0, y)).collect();
+    let mut upward = one_abscissa.clone();
+    upward.sort();
+    repeats("in any order", &random);
+    repeats("sorted", &sorted);
+    repeats("reversed", &reversed);
+    repeats("interleaved", &interleaved(&sorted));
+    repeats("on one abscissa, in any order", &one_abscissa);
+    repeats("on one abscissa, sorted", &upward);
+}
+
 fn main() {
     let mut r = Random::new("bench", 21);
     println!("| call | edges | points | lent words | proved | plain Rust | brute force | proved / plain | proved / brute |");
@@ -150,4 +193,5 @@ fn main() {
         opening(&s, false);
         opening(&s, true);
     }
+    repeats_in_orders(&mut r);
 }
