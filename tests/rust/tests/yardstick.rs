@@ -9,8 +9,12 @@ const AIMS: [u32; 12] = [1, 2, 4, 5, 6, 7, 8, 9, 10, 11, 12, 13];
 fn opened(s: &Sheet, words: usize, (x, y): (i32, i32)) -> ([u32; 2], Vec<u32>) {
     let mut index = vec![7; words];
     let (said, left) = paper::open(s, &index);
-    assert_eq!((Tables::from(s).open(&mut index), &index), (said, &left), "{s:?}");
-    assert_eq!(Tables::from(s).read(x, y), paper::read(s, x, y).values(), "({x}, {y}) of {s:?}");
+    let t = Tables::from(s);
+    assert_eq!((t.open(&mut index), &index), (said, &left), "{s:?}");
+    assert_eq!(t.read(x, y), paper::read(s, x, y).values(), "({x}, {y}) of {s:?}");
+    if said[0] != 1 {
+        assert_eq!(t.repeat_by_pairs(), t.repeat(), "{s:?}");
+    }
     (said, left)
 }
 
