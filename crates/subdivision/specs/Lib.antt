@@ -1,4 +1,4 @@
--- Document 01 as definitions: what a reader must believe. One file a subject.
+-- Document 01 as definitions, and the order of document 02's P3: what a reader must believe. One file a subject.
 pub mod Limits
 pub mod Formula
 pub mod Lowest

@@ -7,6 +7,7 @@ use Prim.Native.Nat.{ℕ, _+_, _*_}
 use native.Mathlib.Omega.{arith}
 use lib.Dec.{eqb}
 use lib.IntN.{ℤ, pos, negsuc}
+use lib.ListN.{length}
 use Rattle.subdivision.specs.Lists.{tab}
 use Rattle.subdivision.specs.Order.{SortedBelow, atOrBefore, inOrder}
 use Rattle.subdivision.specs.Sheet.{vertexX, vertexY}
@@ -41,24 +42,24 @@ unfolding fivePoints inOrder tab
 worked-order = refl
 
 -- by y first it is another order
-pub height-first : inOrder byHeight 5 ≡ 2 ∷ 4 ∷ 0 ∷ 3 ∷ 1 ∷ []
+height-first : inOrder byHeight 5 ≡ 2 ∷ 4 ∷ 0 ∷ 3 ∷ 1 ∷ []
 unfolding fivePoints inOrder tab
 height-first = refl
 
--- in which vertex 2 comes before vertex 4, which is west of it
-pub height-first-breaks : ByPoint fivePoints (2 ∷ 4 ∷ 0 ∷ 3 ∷ 1 ∷ []) → ⊥
+-- which is not by point: vertex 2 comes before vertex 4, and vertex 4 is west of it
+pub height-first-breaks : ByPoint fivePoints (inOrder byHeight 5) → ⊥
 unfolding fivePoints
-height-first-breaks b = go (b 0 1 (omega arith) (omega arith))
+height-first-breaks b = go (rw height-first at b 0 1 (omega arith) (omega arith))
   where
     go : PointBefore fivePoints 2 4 → ⊥
     go (inl p) = omega arith
     go (inr p) = omega arith
 
 -- where a tie drops a vertex, vertex 3 is missing
-pub tie-dropped : sortedOnce byPoint (tab (λ k. k) 5) ≡ 4 ∷ 1 ∷ 2 ∷ 0 ∷ []
+tie-dropped : sortedOnce byPoint (tab (λ k. k) 5) ≡ 4 ∷ 1 ∷ 2 ∷ 0 ∷ []
 unfolding fivePoints tab
 tie-dropped = refl
 
--- and whatever the key, such a list does not hold each of the five
-pub tie-dropped-breaks : (key : ℕ → ℕ) → SortedBelow key 5 (4 ∷ 1 ∷ 2 ∷ 0 ∷ []) → ⊥
-tie-dropped-breaks key s = omega (arith, s .long)
+-- and the list does not hold each of the five
+pub tie-dropped-breaks : SortedBelow byPoint 5 (sortedOnce byPoint (tab (λ k. k) 5)) → ⊥
+tie-dropped-breaks s = let short : length {A = ℕ} (4 ∷ 1 ∷ 2 ∷ 0 ∷ []) ≡ 5 = rw tie-dropped at (s .long) in omega arith

@@ -78,7 +78,7 @@ fn repeats_by_all_pairs() {
             vertices.copy_within(2 * from..2 * from + 2, 2 * to);
         }
         if r.below(4) == 0 && count > 1 {
-            // a vertex that differs from another in one coordinate by one, or by the sign of both
+            // another vertex with one coordinate moved by one, with x and y exchanged, or with both signs turned
             let (from, to) = (r.below(count as u64) as usize, r.below(count as u64) as usize);
             let (x, y) = (vertices[2 * from], vertices[2 * from + 1]);
             let (p, q) = r.one(&[(x.wrapping_add(1), y), (x, y.wrapping_add(1)), (y, x), (x.wrapping_neg(), y.wrapping_neg())]);
@@ -91,7 +91,8 @@ fn repeats_by_all_pairs() {
         if over {
             vertices.push(r.next() as i32);
         }
-        let repeated: Vec<usize> = (0..count).filter(|&v| (0..v).any(|u| vertices[2 * u..2 * u + 2] == vertices[2 * v..2 * v + 2])).collect();
+        let point = |v: usize| &vertices[2 * v..2 * v + 2];
+        let repeated: Vec<usize> = (0..count).filter(|&v| (0..v).any(|u| point(u) == point(v))).collect();
         let wanted = (count <= 1_024).then(|| repeated.first().map_or(count as u32, |&v| v as u32));
         assert_eq!(first_repeat(&vertices), wanted, "{vertices:?}");
         seen[repeated.len().min(2)] += usize::from(count <= 1_024);
