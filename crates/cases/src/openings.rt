@@ -103,6 +103,93 @@ const ALIKE: [u32; 40] = [
     1,
 ];
 
+// The vertices of two lenses side by side over three edges from W to E.
+const BENEATH_VERTICES: [i32; 26] = [
+    0,
+    0,
+    2,
+    0,
+    4,
+    0,
+    1,
+    1,
+    1,
+    -1,
+    3,
+    1,
+    3,
+    -1,
+    0,
+    -5,
+    4,
+    -5,
+    0,
+    -4,
+    4,
+    -4,
+    0,
+    -3,
+    4,
+    -3,
+];
+
+// A circle between 5 and 6 beneath zone 2: the left lens with zone 6 over zone 5, the right one with zone
+// 5 over zone 6, and under them the zones 4, 3, 1 and 0.
+const BENEATH: [u32; 52] = [
+    0,
+    3,
+    2,
+    6,
+    3,
+    1,
+    2,
+    6,
+    0,
+    4,
+    5,
+    4,
+    4,
+    1,
+    5,
+    4,
+    0,
+    1,
+    6,
+    5,
+    1,
+    5,
+    2,
+    5,
+    5,
+    2,
+    2,
+    5,
+    1,
+    6,
+    6,
+    4,
+    6,
+    2,
+    6,
+    4,
+    1,
+    2,
+    5,
+    6,
+    7,
+    8,
+    1,
+    0,
+    9,
+    10,
+    3,
+    1,
+    11,
+    12,
+    4,
+    3,
+];
+
 // Two edges from W that meet at vertex 0 on E, with zone 3 above the lower one and zone 1 below the
 // upper one: by rule 5's western clause alone the lowest vertex at fault is 0.
 const WEDGE_VERTICES: [i32; 6] = [4, 0, 0, 1, 0, -1];
@@ -198,6 +285,18 @@ fn twins() {
     let circle = CIRCLE;
     let mut first = [LENT; 23];
     opened(b"the circle:", 0, 4, &vertices, &circle, 4, &mut first);
+    let lower = BENEATH_VERTICES;
+    let beneath = BENEATH;
+    let mut other = [LENT; 35];
+    opened(
+        b"a circle between 5 and 6 beneath zone 2:",
+        0,
+        4,
+        &lower,
+        &beneath,
+        7,
+        &mut other,
+    );
     let alike = ALIKE;
     let mut second = [LENT; 23];
     opened(b"two like lenses:", 0, 4, &vertices, &alike, 4, &mut second);

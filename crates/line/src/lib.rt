@@ -68,7 +68,7 @@ fn make_line(
 }
 
 // Sorts the edges by their zone below, and tells where the edges above each zone begin.
-fn by_zone_below(edges: &[u32], order: &mut [u32], begin: &mut [u32])
+pub fn by_zone_below(edges: &[u32], order: &mut [u32], begin: &mut [u32])
     requires { ⌜ (length (now order) ≤ maxEdges) × (length (now begin) ≤ 4294967296) ⌝ }
     ensures sorted { λ _. ⌜ now (order .exit) ≡ inOrder (belowKey (now (edges .entry))) (length (now (order .entry))) ⌝ }
     ensures grouped { λ _. ⌜ now (begin .exit) ≡ tab (groupStart (belowKey (now (edges .entry))) (now (order .exit))) (length (now (begin .entry))) ⌝ }

@@ -13,11 +13,13 @@ use Rattle.subdivision.specs.Sheet.{Sheet, edgeCount, zoneCount}
 use Rattle.subdivision.specs.Refusals.{judged, limitRefusals, roomRefusal, ruleRefusals}
 use Rattle.subdivision.specs.Faults.{GivenBy, openingRefusals, tableRefusals}
 use Rattle.subdivision.specs.Accepted.{Accepted}
+use Rattle.subdivision.specs.Earlier.{earlierOpeningRefusals, GivenAsBefore}
 use Rattle.subdivision.specs.Index.{indexWords}
 use Rattle.subdivision.specs.Engine.{HoldsIndex}
 use Rattle.subdivision.specs.Calls.{opening}
 use Rattle.theory.proofs.Decide.{held, fails}
 use Rattle.theory.proofs.Judgement.{refused-first, passed-first, none-named}
+use Rattle.theory.proofs.Earlier.{opening-as-before, given-as-before}
 use Rattle.theory.proofs.Faults.{opened-exactly, refused-exactly}
 use Rattle.theory.proofs.HeldIndex.{words-long, written-holds}
 
@@ -31,7 +33,8 @@ module _ (s : Sheet) (index : List ℕ) where
       × (((number item : ℕ) → (v ≡ Verdict.Refused number item) ↔ GivenBy (openingRefusals s (length index)) number item)
       × ((v ≡ Verdict.Passed → (left ≡ put (indexWords s) index) × (length (indexWords s) ≡ indexNeed (zoneCount s) (edgeCount s)))
       × (((number item : ℕ) → v ≡ Verdict.Refused number item → left ≡ index)
-      × (v ≡ Verdict.Passed → HoldsIndex s left))))))
+      × ((v ≡ Verdict.Passed → HoldsIndex s left)
+      × GivenAsBefore (earlierOpeningRefusals s (length index)) (λ number item. v ≡ Verdict.Refused number item)))))))
 
   -- a verdict, as the rules' statements
   says : (v : Verdict) → judged (openingRefusals s (length index)) ≡ v
@@ -41,11 +44,17 @@ module _ (s : Sheet) (index : List ℕ) where
       subst (λ (w : Verdict). ((w ≡ Verdict.Passed) ↔ (Accepted s × (indexNeed (zoneCount s) (edgeCount s) ≤ length index))) × ((number item : ℕ) → (w ≡ Verdict.Refused number item) ↔ GivenBy (openingRefusals s (length index)) number item)) e
       (opened-exactly s (length index), refused-exactly s (length index))
 
+  -- its refusals are given as before
+  given : (v : Verdict) → ((number item : ℕ) → (v ≡ Verdict.Refused number item) ↔ GivenBy (openingRefusals s (length index)) number item)
+      → GivenAsBefore (earlierOpeningRefusals s (length index)) (λ number item. v ≡ Verdict.Refused number item)
+  given v exactly =
+      given-as-before (openingRefusals s (length index)) (earlierOpeningRefusals s (length index)) (λ number item. v ≡ Verdict.Refused number item) exactly (opening-as-before s (length index))
+
   -- a refusal leaves the words as they were
   pub refusal-promised : (number item : ℕ) → judged (openingRefusals s (length index)) ≡ Verdict.Refused number item → Promised (Verdict.Refused number item) index
   unfolding opening
   refusal-promised number item e =
-      (rw (e, opening), (rw (e, opening), (told .0, (told .1, (λ p. absurd (false≢true cc), (λ n i p. refl, λ p. absurd (false≢true cc)))))))
+      (rw (e, opening), (rw (e, opening), (told .0, (told .1, (λ p. absurd (false≢true cc), (λ n i p. refl, (λ p. absurd (false≢true cc), given (Verdict.Refused number item) (told .1))))))))
     where
       told : ((Verdict.Refused number item ≡ Verdict.Passed) ↔ (Accepted s × (indexNeed (zoneCount s) (edgeCount s) ≤ length index)))
           × ((n i : ℕ) → (Verdict.Refused number item ≡ Verdict.Refused n i) ↔ GivenBy (openingRefusals s (length index)) n i)
@@ -55,7 +64,7 @@ module _ (s : Sheet) (index : List ℕ) where
   pub opened-promised : (left : List ℕ) → judged (openingRefusals s (length index)) ≡ Verdict.Passed → left ≡ put (indexWords s) index → Promised Verdict.Passed left
   unfolding opening
   opened-promised left e w =
-      (rw (e, opening), (w ∙ rw (e, opening), (told .0, (told .1, (λ p. (w, words-long s a), (λ n i p. absurd (false≢true cc), λ p. subst (HoldsIndex s) (sym w) (written-holds s a index)))))))
+      (rw (e, opening), (w ∙ rw (e, opening), (told .0, (told .1, (λ p. (w, words-long s a), (λ n i p. absurd (false≢true cc), (λ p. subst (HoldsIndex s) (sym w) (written-holds s a index), given Verdict.Passed (told .1))))))))
     where
       told : ((Verdict.Passed ≡ Verdict.Passed) ↔ (Accepted s × (indexNeed (zoneCount s) (edgeCount s) ≤ length index)))
           × ((n i : ℕ) → (Verdict.Passed ≡ Verdict.Refused n i) ↔ GivenBy (openingRefusals s (length index)) n i)

@@ -21,11 +21,13 @@ use Rattle.subdivision.specs.Refusals.{names, unnamed, judged}
 use Rattle.subdivision.specs.Faults.{GivenBy, tableRefusals, readingRefusals}
 use Rattle.subdivision.specs.Accepted.{Accepted}
 use Rattle.subdivision.specs.Reading.{onSheet, firstZone, readingLine, beneath, zoneBeneath, plainReading}
+use Rattle.subdivision.specs.Earlier.{earlierReadingRefusals, GivenAsBefore}
 use Rattle.subdivision.specs.Placed.{OnSheet, OffVertices, OffEdges, OneThingOnly, ReadingsAgree}
 use Rattle.subdivision.specs.Calls.{reading}
 use Rattle.theory.proofs.Chains.{accepted-line}
 use Rattle.theory.proofs.Decide.{means}
 use Rattle.theory.proofs.Judgement.{judged-append, none-named, accepted-decides}
+use Rattle.theory.proofs.Earlier.{reading-as-before, given-as-before}
 use Rattle.theory.proofs.Faults.{reading-refused-exactly}
 use Rattle.theory.proofs.OneThing.{by-plain, one-thing, accepted-reads}
 use Rattle.theory.proofs.Readings.{zones-agree, read-so}
@@ -72,7 +74,9 @@ module _ (s : Sheet) (x y : ℤ) where
   Promised r =
       (r ≡ reading s x y)
       × (((number item : ℕ) → (r ≡ Answer.Refused number item) ↔ GivenBy (readingRefusals s (shifted x) (shifted y)) number item)
-      × (OneThingOnly s (shifted x) (shifted y) r × ReadingsAgree s (shifted x) (shifted y) r))
+      × (OneThingOnly s (shifted x) (shifted y) r
+      × (ReadingsAgree s (shifted x) (shifted y) r
+      × GivenAsBefore (earlierReadingRefusals s (shifted x) (shifted y)) (λ number item. r ≡ Answer.Refused number item))))
 
   -- the answer that a verdict comes to
   abbrev answerTo : Verdict → Answer
@@ -115,7 +119,7 @@ module _ (s : Sheet) (x y : ℤ) where
 
   -- the answer that the definition gives keeps every promise
   promised : (r : Answer) → r ≡ reading s x y → Promised r
-  promised r e = subst Promised (sym e) (refl, (refused-exactly, (in-one-thing, in-zone)))
+  promised r e = subst Promised (sym e) (refl, (refused-exactly, (in-one-thing, (in-zone, as-before))))
     where
       in-one-thing : OneThingOnly s (shifted x) (shifted y) (reading s x y)
       in-one-thing a o = rw (accepted-reads s a x y o) (one-thing s a (shifted x) (shifted y) o)
@@ -123,6 +127,10 @@ module _ (s : Sheet) (x y : ℤ) where
       in-zone : ReadingsAgree s (shifted x) (shifted y) (reading s x y)
       in-zone a o v f =
           (zoneBeneath s (shifted x) (shifted y), accepted-reads s a x y o ∙ off-reads-zone s (shifted x) (shifted y) v f, (zones-agree s a (shifted x) (shifted y) o f, read-so s a (shifted x) (shifted y) o f))
+
+      as-before : GivenAsBefore (earlierReadingRefusals s (shifted x) (shifted y)) (λ number item. reading s x y ≡ Answer.Refused number item)
+      as-before =
+          given-as-before (readingRefusals s (shifted x) (shifted y)) (earlierReadingRefusals s (shifted x) (shifted y)) (λ number item. reading s x y ≡ Answer.Refused number item) refused-exactly (reading-as-before s (shifted x) (shifted y))
 
   -- a refusal of the tables keeps them
   pub refusal-promised : (number item : ℕ) → judged (tableRefusals s) ≡ Verdict.Refused number item → Promised (Answer.Refused number item)

@@ -8,7 +8,9 @@ use Rattle.subdivision.specs.Sheet.{Sheet}
 use Rattle.subdivision.specs.Refusals.{judged, limitRefusals}
 use Rattle.subdivision.specs.Faults.{GivenBy, tableRefusals}
 use Rattle.subdivision.specs.Accepted.{Accepted}
+use Rattle.subdivision.specs.Earlier.{earlierTableRefusals, GivenAsBefore}
 use Rattle.theory.proofs.Judgement.{refused-first, passed-first, accepted-decides}
+use Rattle.theory.proofs.Earlier.{table-as-before, given-as-before}
 use Rattle.theory.proofs.Faults.{table-refused-exactly}
 use Rattle.sheet.specs.Judgement.{recordRefusals, drawingRefusals, zoneRefusals}
 
@@ -35,9 +37,15 @@ module _ (s : Sheet) where
       pub judged-by-zones : judged (drawingRefusals s) ≡ Verdict.Passed → judged (zoneRefusals s) ≡ judged (tableRefusals s)
       judged-by-zones drawing = sym (past-records ∙ passed-first (drawingRefusals s) (zoneRefusals s) drawing)
 
+  -- what the rules' statements say of a verdict
+  abbrev Says : Verdict → Type 0
+  Says v =
+      ((v ≡ Verdict.Passed) ↔ Accepted s)
+      × (((number item : ℕ) → (v ≡ Verdict.Refused number item) ↔ GivenBy (tableRefusals s) number item)
+      × GivenAsBefore (earlierTableRefusals s) (λ number item. v ≡ Verdict.Refused number item))
+
   -- a verdict on the tables, as the rules' statements
-  pub verdict-says : (v : Verdict) → v ≡ judged (tableRefusals s)
-      → ((v ≡ Verdict.Passed) ↔ Accepted s) × ((number item : ℕ) → (v ≡ Verdict.Refused number item) ↔ GivenBy (tableRefusals s) number item)
+  pub verdict-says : (v : Verdict) → v ≡ judged (tableRefusals s) → Says v
   verdict-says v e =
-      subst (λ (w : Verdict). ((w ≡ Verdict.Passed) ↔ Accepted s) × ((number item : ℕ) → (w ≡ Verdict.Refused number item) ↔ GivenBy (tableRefusals s) number item)) (sym e)
-      (accepted-decides s, table-refused-exactly s)
+      subst Says (sym e)
+      (accepted-decides s, (table-refused-exactly s, given-as-before (tableRefusals s) (earlierTableRefusals s) (λ number item. judged (tableRefusals s) ≡ Verdict.Refused number item) (table-refused-exactly s) (table-as-before s)))

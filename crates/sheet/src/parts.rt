@@ -1,3 +1,4 @@
+use circles::lowest_on_circle;
 use line::zone_line;
 use numbers::words::write;
 use subdivision::MAX_ZONES;
@@ -92,7 +93,8 @@ pub fn judge_zones(
     let mut found = [0u32; MAX_ZONES];
     let left = line_through(edges, zones, &mut found, line);
     if left < zones {
-        return Verdict::Refused(13, left);
+        let circle = lowest_on_circle(edges, zones);
+        return Verdict::Refused(13, circle);
     }
     Verdict::Passed
 }

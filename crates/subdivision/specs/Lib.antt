@@ -1,4 +1,4 @@
--- Document 01 as definitions, and the order of document 02's P3: what a reader must believe. One file a subject.
+-- Document 01 as definitions, with the order of document 02's P3 and the circles of its P4: what a reader must believe. One file a subject.
 pub mod Limits
 pub mod Formula
 pub mod Lowest
@@ -16,6 +16,7 @@ pub mod Refusals
 pub mod Faults
 pub mod Accepted
 pub mod Reading
+pub mod Earlier
 pub mod Placed
 pub mod Index
 pub mod Descent
@@ -27,3 +28,4 @@ pub mod WorkedTable
 pub mod WorkedOrder
 pub mod Slips
 pub mod WorkedRefusals
+pub mod WorkedCircles

@@ -12,7 +12,7 @@ use Rattle.subdivision.specs.Dyadic.{bits}
 use Rattle.subdivision.specs.Layout.{indexNeed}
 use Rattle.subdivision.specs.Sheet.{Sheet, westMargin, eastMargin, vertexCount, edgeCount, zoneCount}
 use Rattle.subdivision.specs.Rules.{inRange, vertexInside, vertexNew, edgeNames, edgeRuns, zonesDiffer, vertexRegular, edgeClear, namesAgree, zoneNamed}
-use Rattle.subdivision.specs.ZoneLine.{rule7, aboveCircle}
+use Rattle.subdivision.specs.ZoneLine.{rule7, onCircle}
 
 -- a line of the table: the number, what holds unless it is given, and the clause that its named item breaks, of so many items
 pub record Refusal : Type 0 where
@@ -66,9 +66,9 @@ module _ (s : Sheet) where
   abbrev pub trailRoom : ℕ → Formula
   trailRoom places = isAtMost (bits (zoneCount s - 1)) places
 
-  -- refusal 13: rule 7 can't be kept; names the lowest zone with a circle at it or below it
+  -- refusal 13: rule 7 can't be kept; names the lowest zone that is itself on a circle (document 02, P4)
   abbrev pub circleRefusal : Refusal
-  circleRefusal = record { number = 13; kept = rule7 s; clause = λ z. notSo (aboveCircle s z); items = zoneCount s }
+  circleRefusal = record { number = 13; kept = rule7 s; clause = λ z. notSo (onCircle s z); items = zoneCount s }
 
   -- refusals 4 to 13, in order
   abbrev pub ruleRefusals : List Refusal

@@ -1,22 +1,25 @@
--- Circles of zones: the line used leaves unplaced exactly the zones with a circle at them or below them, and refusal 13 names the lowest.
+-- Circles of zones: the line used leaves unplaced exactly the zones with a circle at them or below them, so where it leaves one some zone is
+-- on a circle, and refusal 13 names the lowest that is.
 use mathlib.Core.Path.{_≡_, refl, sym, ap, _∙_}
 use mathlib.Core.Bool.{Bool, true, false, not}
 use mathlib.Core.List.{List, [], _∷_, _++_}
 use mathlib.Core.Logic.{_⊎_, inl, inr, ⊎-elim, _↔_}
-use Prim.Native.Nat.{ℕ, zero, suc, _+_, _-_, _<_, _≤_}
+use Prim.Native.Nat.{ℕ, zero, suc, _+_, _-_, _/_, _<_, _≤_}
 use native.Mathlib.Nat.{le-refl, lt-irrefl, ne-of-lt, not-suc-le-zero, le-of-suc-le-suc, suc-add, zero-add}
 use native.Mathlib.Omega.{arith}
 use lib.Dec.{ltb}
+use lib.IntN.{ℤ, pos}
 use lib.ListN.{length}
-use borrow.Author.Tests.{ltb-false}
+use borrow.Author.Tests.{ltb-false, not-true}
 use Rattle.subdivision.specs.declared.Verdict.{Verdict}
-use Rattle.subdivision.specs.Formula.{Formula, isEqual, implies, notSo, everyBelow, holds, Means}
+use Rattle.subdivision.specs.Formula.{Formula, isEqual, both, either, implies, notSo, everyBelow, someBelow, holds, Means}
 use Rattle.subdivision.specs.Lowest.{lowest}
-use Rattle.subdivision.specs.Sheet.{Sheet, edgeCount, zoneCount, aboveOf, belowOf}
+use Rattle.subdivision.specs.Sheet.{Sheet, sheetOf, edgeAbove, edgeBelow, edgeCount, zoneCount, aboveOf, belowOf}
 use Rattle.subdivision.specs.ZoneLine.{position, isIn, isReady, nextZone, lineTo, zoneLine, rule7, leads, onCircle, aboveCircle}
 use Rattle.subdivision.specs.Refusals.{names, circleRefusal, judged}
+use Rattle.subdivision.specs.Earlier.{earlierCircleRefusal}
 use Rattle.theory.proofs.Decide.{not-both, true-or-false, means, held, denies, fails, broken-item, broken-implies}
-use Rattle.theory.proofs.Lowest.{lowest-before, lowest-none, lowest-same}
+use Rattle.theory.proofs.Lowest.{lowest-before, lowest-passes, lowest-none, lowest-same}
 use Rattle.theory.proofs.Position.{length-snoc}
 use Rattle.theory.proofs.Counting.{pigeonhole}
 use Rattle.theory.proofs.Judgement.{lowest-all-means}
@@ -30,6 +33,12 @@ module _ (s : Sheet) where
   leads-more (suc j) zero a b h m = absurd (not-suc-le-zero h)
   leads-more (suc j) (suc k) a b h m =
       ⊎-elim inl (λ t. inr (t .0, t .1, (t .2 .0, leads-more j k (aboveOf s (t .0)) b (le-of-suc-le-suc h) (t .2 .1)))) m
+
+  -- a step more, from where the steps lead
+  pub leads-onward : (k a b e : ℕ) → e < edgeCount s → belowOf s e ≡ b → Means (leads s k a b) → Means (leads s (suc k) a (aboveOf s e))
+  leads-onward zero a b e h i m = inr (e, h, (i ∙ sym m, refl))
+  leads-onward (suc k) a b e h i m =
+      ⊎-elim (λ (q : a ≡ b). inr (e, h, (i ∙ sym q, inl refl))) (λ t. inr (t .0, t .1, (t .2 .0, leads-onward k (aboveOf s (t .0)) b e h i (t .2 .1)))) m
 
   -- ---- a placed zone has no circle at it or below it
 
@@ -108,6 +117,14 @@ module _ (s : Sheet) where
       filled : lowest (λ z. not (holds (isIn z (zoneLine s)))) (zoneCount s) ≡ zoneCount s → length (zoneLine s) ≡ zoneCount s
       filled e = places-full s (lowest-all-means (zoneCount s) (λ z. isIn z (zoneLine s)) e)
 
+  -- refusal 13 names the lowest zone on a circle
+  pub circle-named : lowest (λ z. holds (onCircle s z)) (zoneCount s) ≡ names (circleRefusal s)
+  circle-named = lowest-same (λ z. holds (onCircle s z)) (λ z. not (holds (notSo (onCircle s z)))) (zoneCount s) (λ z h. twice (holds (onCircle s z)))
+    where
+      twice : (b : Bool) → b ≡ not (not b)
+      twice true = refl
+      twice false = refl
+
   module _ (named : (e : ℕ) → e < edgeCount s → (aboveOf s e < zoneCount s) × (belowOf s e < zoneCount s)) where
     -- an edge under a zone that is left, with another such zone below it
     edge-under : (z : Left) → (e : ℕ) × (e < edgeCount s) × ((aboveOf s e ≡ z .zone) × (position (belowOf s e) (zoneLine s) < length (zoneLine s) → ⊥))
@@ -171,18 +188,41 @@ module _ (s : Sheet) where
         (λ e. fails (notSo (aboveCircle s z)) (λ f. f (left-circle (record { zone = z; within = h; left = denies (isIn z (zoneLine s)) e }))) ∙ sym e)
         (true-or-false (holds (isIn z (zoneLine s))))
 
-    -- refusal 13 names the lowest zone that the line leaves unplaced
-    pub circle-named : lowest (λ z. not (holds (isIn z (zoneLine s)))) (zoneCount s) ≡ names (circleRefusal s)
-    circle-named =
+    -- refusal 13 named the lowest zone that the line leaves unplaced, before P4
+    pub earlier-named : lowest (λ z. not (holds (isIn z (zoneLine s)))) (zoneCount s) ≡ names (earlierCircleRefusal s)
+    earlier-named =
         lowest-same (λ z. not (holds (isIn z (zoneLine s)))) (λ z. not (holds (notSo (aboveCircle s z)))) (zoneCount s)
         (λ z h. ap not (sym (left-above-circle z h)))
+
+    -- where the line leaves a zone, some zone is on a circle
+    pub some-on-circle : lowest (λ z. not (holds (isIn z (zoneLine s)))) (zoneCount s) < zoneCount s → (c : ℕ) × (c < zoneCount s) × Means (onCircle s c)
+    some-on-circle h = circle (left-circle (record { zone = z; within = h; left = left }))
+      where
+        z : ℕ
+        z = lowest (λ z. not (holds (isIn z (zoneLine s)))) (zoneCount s)
+
+        left : position z (zoneLine s) < length (zoneLine s) → ⊥
+        left = denies (isIn z (zoneLine s)) (not-true (holds (isIn z (zoneLine s))) (lowest-passes (λ z. not (holds (isIn z (zoneLine s)))) (zoneCount s) h))
+
+        circle : Means (aboveCircle s z) → (c : ℕ) × (c < zoneCount s) × Means (onCircle s c)
+        circle (c, b, (o, m)) = (c, b, o)
 
     -- refusal 13 is passed where the line leaves no zone
     pub judged-circle-kept : lowest (λ z. not (holds (isIn z (zoneLine s)))) (zoneCount s) ≡ zoneCount s → judged (circleRefusal s ∷ []) ≡ Verdict.Passed
     judged-circle-kept e = rw (held (rule7 s) (line-full .1 e), judged)
 
-    -- refusal 13 is given where the line leaves a zone, and names the lowest
+    -- refusal 13 is given where the line leaves a zone, and names the lowest zone on a circle
     pub judged-circle-broken : lowest (λ z. not (holds (isIn z (zoneLine s)))) (zoneCount s) < zoneCount s
-        → judged (circleRefusal s ∷ []) ≡ Verdict.Refused 13 (lowest (λ z. not (holds (isIn z (zoneLine s)))) (zoneCount s))
+        → judged (circleRefusal s ∷ []) ≡ Verdict.Refused 13 (lowest (λ z. holds (onCircle s z)) (zoneCount s))
     judged-circle-broken h =
         rw (fails (rule7 s) (λ full. ne-of-lt h (line-full .0 full)), judged) (ap (Verdict.Refused 13) (sym circle-named))
+
+module _ (west east : ℤ) (vertices : List ℤ) (edges : List ℕ) (zones : ℕ) where
+  leads-of-edges : (k a b : ℕ) → leads (sheetOf west east vertices edges zones) k a b ≡ leads (sheetOf (pos 0) (pos 0) [] edges zones) k a b
+  leads-of-edges zero a b = refl
+  leads-of-edges (suc k) a b =
+      λ i. either (isEqual a b) (someBelow (length edges / 4) (λ e. both (isEqual (edgeBelow edges e) a) (leads-of-edges k (edgeAbove edges e) b i)))
+
+  -- which zones are on a circle follows from the edges and the number of zones alone
+  pub circle-of-edges : (c : ℕ) → onCircle (sheetOf west east vertices edges zones) c ≡ onCircle (sheetOf (pos 0) (pos 0) [] edges zones) c
+  circle-of-edges c = λ i. someBelow (length edges / 4) (λ e. both (isEqual (edgeBelow edges e) c) (leads-of-edges zones (edgeAbove edges e) c i))

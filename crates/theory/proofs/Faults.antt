@@ -11,15 +11,16 @@ use Rattle.subdivision.specs.Lowest.{lowest}
 use Rattle.subdivision.specs.Sheet.{Sheet, vertexCount, edgeCount, zoneCount, aboveOf, belowOf}
 use Rattle.subdivision.specs.Rules.{vertexInside, vertexNew, edgeNames, edgeRuns, zonesDiffer, vertexRegular, edgeClear, namesAgree, zoneNamed}
 use Rattle.subdivision.specs.Layout.{indexNeed}
-use Rattle.subdivision.specs.ZoneLine.{isIn, zoneLine}
+use Rattle.subdivision.specs.ZoneLine.{isIn, zoneLine, rule7, onCircle}
 use Rattle.subdivision.specs.Refusals.{Refusal, names, unnamed, forEach, judged, countsKept, marginsKept, limitRefusals, roomRefusal, circleRefusal, ruleRefusals, trailRoom}
 use Rattle.subdivision.specs.Faults.{LowestFault, Named, GivenBy, AllKept, openingRefusals, tableRefusals, readingRefusals, searchRefusals}
 use Rattle.subdivision.specs.Accepted.{Accepted}
+use Rattle.subdivision.specs.Earlier.{earlierCircleRefusal}
 use Rattle.subdivision.specs.Reading.{onSheet}
 use Rattle.theory.proofs.Decide.{means, held, denies, fails}
-use Rattle.theory.proofs.Lowest.{is-lowest, lowest-le}
+use Rattle.theory.proofs.Lowest.{is-lowest, lowest-le, lowest-at-most}
 use Rattle.theory.proofs.Judgement.{passed-keeps, kept-passes, none-named, lowest-fault, names-lowest, accepted-decides}
-use Rattle.theory.proofs.Circles.{line-full, circle-named}
+use Rattle.theory.proofs.Circles.{line-full, some-on-circle, circle-named, earlier-named}
 
 -- an item that a line names is the one that the judgement names
 named-one : (r : Refusal) (item : ℕ) → Named r item → item ≡ names r
@@ -77,20 +78,24 @@ pub each-sound : (number items : ℕ) (clause : ℕ → Formula) → (Means (for
 each-sound number items clause f = inr (names-lowest number items clause f)
 
 module _ (s : Sheet) where
-  -- refusal 13 names the lowest zone with a circle at it or below it
-  pub circle-lowest : ((e : ℕ) → e < edgeCount s → (aboveOf s e < zoneCount s) × (belowOf s e < zoneCount s))
-      → (Means (circleRefusal s .kept) → ⊥) → LowestFault (circleRefusal s .clause) (zoneCount s) (names (circleRefusal s))
-  circle-lowest named stuck = lowest-fault (zoneCount s) (circleRefusal s .clause) below
-    where
-      left : ℕ
-      left = lowest (λ z. not (holds (isIn z (zoneLine s)))) (zoneCount s)
+  module _ (named : (e : ℕ) → e < edgeCount s → (aboveOf s e < zoneCount s) × (belowOf s e < zoneCount s)) (stuck : Means (rule7 s) → ⊥) where
+    -- where rule 7 can't be kept, the line used leaves a zone
+    left-below : lowest (λ z. not (holds (isIn z (zoneLine s)))) (zoneCount s) < zoneCount s
+    left-below = omega (arith, lowest-le (λ z. not (holds (isIn z (zoneLine s)))) (zoneCount s), full)
+      where
+        full : lowest (λ z. not (holds (isIn z (zoneLine s)))) (zoneCount s) ≡ zoneCount s → ⊥
+        full e = stuck (line-full s .1 e)
 
-      below : names (circleRefusal s) < zoneCount s
-      below =
-          omega (arith, circle-named s named, lowest-le (λ z. not (holds (isIn z (zoneLine s)))) (zoneCount s), full)
-        where
-          full : left ≡ zoneCount s → ⊥
-          full e = stuck (line-full s .1 e)
+    -- refusal 13 names the lowest zone that is itself on a circle
+    pub circle-lowest : LowestFault (circleRefusal s .clause) (zoneCount s) (names (circleRefusal s))
+    circle-lowest = lowest-fault (zoneCount s) (circleRefusal s .clause) (below (some-on-circle s named left-below))
+      where
+        below : (c : ℕ) × (c < zoneCount s) × Means (onCircle s c) → names (circleRefusal s) < zoneCount s
+        below (c, h, o) = omega (arith, circle-named s, lowest-at-most (λ z. holds (onCircle s z)) (zoneCount s) c (held (onCircle s c) o))
+
+    -- before P4 it named the lowest zone with a circle at it or below it
+    pub earlier-lowest : LowestFault (earlierCircleRefusal s .clause) (zoneCount s) (names (earlierCircleRefusal s))
+    earlier-lowest = lowest-fault (zoneCount s) (earlierCircleRefusal s .clause) (omega (arith, earlier-named s named, left-below))
 
   rules-sound : Sound (ruleRefusals s)
   rules-sound =

@@ -19,6 +19,7 @@ pub mod Descents
 pub mod Drawn
 pub mod DrawnRules
 pub mod Dyadic
+pub mod Earlier
 pub mod FaithfulLookUps
 pub mod FanOrder
 pub mod Faults
@@ -47,6 +48,7 @@ pub mod Places
 pub mod Position
 pub mod ProbeFaults
 pub mod Probes
+pub mod Reached
 pub mod ReadFrom
 pub mod Readings
 pub mod Repeats

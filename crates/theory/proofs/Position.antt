@@ -4,15 +4,15 @@ use mathlib.Core.Bool.{Bool, true, false}
 use mathlib.Core.List.{List, [], _∷_, _++_}
 use mathlib.Core.Logic.{_⊎_, inl, inr, ⊎-elim}
 use Prim.Native.Nat.{ℕ, zero, suc, _<_, _≤_, zero-le, suc-le-suc}
-use native.Mathlib.Nat.{lt-irrefl, not-suc-le-zero, le-of-suc-le-suc, suc-ne-zero}
+use native.Mathlib.Nat.{le-refl, lt-irrefl, not-suc-le-zero, le-of-suc-le-suc, suc-ne-zero}
 use native.Mathlib.Numerals.{add-one}
 use native.Mathlib.Omega.{arith}
 use lib.Dec.{eqb}
 use lib.ListN.{length, getD, length-append}
 use borrow.Author.Tests.{eqb-true, eqb-false, eq-eqb, ne-eqb}
-use Rattle.subdivision.specs.Formula.{holds}
+use Rattle.subdivision.specs.Formula.{holds, Means}
 use Rattle.subdivision.specs.ZoneLine.{position, isIn}
-use Rattle.theory.proofs.Decide.{true-or-false, means, denies}
+use Rattle.theory.proofs.Decide.{true-or-false, means, held, denies, fails}
 
 pub position-le : (z : ℕ) (l : List ℕ) → position z l ≤ length l
 position-le z [] = zero-le
@@ -82,3 +82,17 @@ in-snoc y z l h =
         ⊎-elim (eqb-true y z)
         (λ e. absurd (lt-irrefl (suc (length l)) (rw (position-other y z l (eqb-false y z e) a, length-snoc z l) at h)))
         (true-or-false (eqb y z))
+
+pub in-longer : (y z : ℕ) (l : List ℕ) → Means (isIn y l) → Means (isIn y (l ++ (z ∷ [])))
+in-longer y z l h = rw (position-kept y l (z ∷ []) h, length-snoc z l) (omega arith)
+
+pub in-at-end : (z : ℕ) (l : List ℕ) → (Means (isIn z l) → ⊥) → Means (isIn z (l ++ (z ∷ [])))
+in-at-end z l d = rw (position-last z l (absent z l d), length-snoc z l) (le-refl (suc (length l)))
+
+-- another number stands in the longer list where it stood in the list
+pub in-same : (y z : ℕ) (l : List ℕ) → (y ≡ z → ⊥) → holds (isIn y (l ++ (z ∷ []))) ≡ holds (isIn y l)
+in-same y z l d =
+    ⊎-elim
+    (λ e. held (isIn y (l ++ (z ∷ []))) (in-longer y z l (means (isIn y l) e)) ∙ sym e)
+    (λ e. fails (isIn y (l ++ (z ∷ []))) (λ i. ⊎-elim (denies (isIn y l) e) d (in-snoc y z l i)) ∙ sym e)
+    (true-or-false (holds (isIn y l)))

@@ -32,11 +32,12 @@ module _ (s : Sheet) where
     pub zone : (i : ℕ) → i < length l → getD l i 0 < zoneCount s
     pub once : (i : ℕ) → i < length l → position (getD l i 0) l ≡ i
 
-  part-empty : Part []
+  pub part-empty : Part []
   part-empty =
       record { rest = rw add-zero (count-all (zoneCount s) (unplaced []) (λ k h. held (notSo (isIn k [])) (λ l. not-suc-le-zero l))); rising = λ e h l. absurd (not-suc-le-zero l); zone = λ i h. absurd (not-suc-le-zero h); once = λ i h. absurd (not-suc-le-zero h) }
 
-  one-less : (l : List ℕ) (z : ℕ) → z < zoneCount s → (position z l < length l → ⊥)
+  -- a zone put at the end is one fewer that is left
+  pub one-less : (l : List ℕ) (z : ℕ) → z < zoneCount s → (position z l < length l → ⊥)
       → countUnder (zoneCount s) (unplaced l) ≡ suc (countUnder (zoneCount s) (unplaced (l ++ (z ∷ []))))
   one-less l z h d =
       count-less (zoneCount s) (unplaced l) (unplaced (l ++ (z ∷ []))) z h (held (notSo (isIn z l)) d)

@@ -1,7 +1,12 @@
 //! Writes a repository in which the checker evaluates the definitions of document 01 on the outside vectors:
-//! each call of a small sheet becomes an equation between the definition and the vector's answer, closed by computation.
+//! each call of a small sheet becomes an equation between the definition and the vector's answer, closed by computation. The vectors'
+//! refusal 13 names the zone that it named before P4: that zone is compared with the line as it stood, and the zone named now is the one
+//! that the closure of the steps gives.
 //!
 //! `evaluate VECTORS REPOSITORY`: VECTORS is the folder of base-*.txt, REPOSITORY is made anew.
+#[path = "../../rust/src/circles.rs"]
+mod circles;
+
 use std::fmt::Write as _;
 use std::{env, fs, path::Path};
 
@@ -27,6 +32,8 @@ use Rattle.subdivision.specs.ZoneLine.{nextZone, zoneLine}
 use Rattle.subdivision.specs.Reading.{firstZone, zoneBeneath, plainReading}
 use Rattle.subdivision.specs.Index.{placeOf, zoneAt, chainOf, eastward, chain, startOf, indexWords}
 use Rattle.subdivision.specs.Descent.{descent, indexDescent}
+use Rattle.subdivision.specs.Refusals.{names}
+use Rattle.subdivision.specs.Earlier.{earlierCircleRefusal}
 use Rattle.subdivision.specs.Calls.{Opened, Searched, opening, reading, searching}
 ";
 const UNFOLDING: &str = "unfolding opening reading searching descent indexDescent placeOf zoneAt chainOf eastward chain startOf \
@@ -53,6 +60,13 @@ fn answer(w: &[&str]) -> String {
         "refused" => format!("Answer.Refused {} {}", w[1], w[2]),
         other => panic!("unknown answer {other}"),
     }
+}
+
+/// The zone that refusal 13 names now, on the sheet of these edges, where it named this one before.
+fn named(edges: &[&str], zones: &str, before: &str) -> String {
+    let number = |word: &str| word.parse().expect("a number");
+    let edges: Vec<u32> = edges.iter().map(|word| number(word)).collect();
+    circles::amended(&edges, number(zones), number(before)).to_string()
 }
 
 fn opened(call: &[&str], a: &[&str]) -> String {
@@ -93,6 +107,7 @@ fn main() {
         let mut module = String::new();
         let mut index: Vec<&str> = vec![];
         let (mut name, mut cases, mut readings) = (String::new(), 0usize, 0usize);
+        let (mut edges, mut zones): (Vec<&str>, &str) = (vec![], "0");
         let mut flush = |name: &str, module: &mut String| {
             if !module.is_empty() {
                 fs::write(specs.join(format!("{name}.antt")), &*module).expect("a module");
@@ -105,6 +120,7 @@ fn main() {
                 flush(&name, &mut module);
                 let parts: Vec<Vec<&str>> = sheet.split('|').map(|p| p.split_whitespace().collect()).collect();
                 (cases, readings) = (0, 0);
+                (edges, zones) = (parts[2].clone(), parts[0][2]);
                 if parts[2].len() > 4 * EDGES {
                     continue;
                 }
@@ -122,6 +138,8 @@ fn main() {
             }
             let (call, result) = line.split_once(" -> ").unwrap_or((line, ""));
             let (call, a): (Vec<&str>, Vec<&str>) = (call.split_whitespace().collect(), result.split_whitespace().collect());
+            let moved = a.starts_with(&["refused", "13"]).then(|| named(&edges, zones, a[2]));
+            let now: Vec<&str> = moved.as_ref().map_or(a.clone(), |zone| vec!["refused", "13", zone]);
             let equation = match call[0] {
                 "lend" => {
                     index = call[1..].to_vec();
@@ -131,21 +149,24 @@ fn main() {
                     if a[0] == "opened" {
                         index = a[1..].to_vec();
                     }
-                    opened(&call, &a)
+                    opened(&call, &now)
                 }
                 "read" => {
                     readings += 1;
                     if readings > READINGS {
                         continue;
                     }
-                    format!("reading sheet ({}) ({}) ≡ {}", integer(call[1]), integer(call[2]), answer(&a))
+                    format!("reading sheet ({}) ({}) ≡ {}", integer(call[1]), integer(call[2]), answer(&now))
                 }
                 "search" => searched(&index, &call, &a),
                 other => panic!("unknown call {other}"),
             };
-            cases += 1;
+            let earlier = (call[0] == "open" && moved.is_some()).then(|| format!("names (earlierCircleRefusal sheet) ≡ {}", a[2]));
             lines += 1;
-            write!(module, "\ncase{cases} : {equation}\n{UNFOLDING}\ncase{cases} = refl\n").unwrap();
+            for equation in [equation].into_iter().chain(earlier) {
+                cases += 1;
+                write!(module, "\ncase{cases} : {equation}\n{UNFOLDING}\ncase{cases} = refl\n").unwrap();
+            }
         }
         flush(&name, &mut module);
     }

@@ -1,5 +1,6 @@
 //! The proved functions, as they are exported and as safe Rust, and a generator of numbers with a printed seed.
 
+pub mod circles;
 pub mod damage;
 pub mod drawings;
 pub mod faults;

@@ -205,12 +205,10 @@ fn all_below(directly: &[Vec<u32>], z: u32) -> Vec<u32> {
     found
 }
 
-/// Line 13: the lowest zone with a circle at it or below it, by any number of steps.
+/// Line 13, as document 02's P4 has it: the lowest zone that is itself on a circle, by any number of steps.
 fn lowest_circle(s: &Sheet, edges: &[Edge]) -> Option<u32> {
     let directly = directly_below(s, edges);
-    let below: Vec<Vec<u32>> = (0..s.zones).map(|z| all_below(&directly, z)).collect();
-    let circle: Vec<bool> = (0..s.zones).map(|z| below[z as usize].contains(&z)).collect();
-    (0..s.zones).find(|&z| circle[z as usize] || below[z as usize].iter().any(|&w| circle[w as usize]))
+    (0..s.zones).find(|&z| all_below(&directly, z).contains(&z))
 }
 
 /// Lines 4 to 13 of the table, for tables that line 1 does not refuse: the named item where the line applies.

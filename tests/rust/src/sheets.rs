@@ -147,6 +147,72 @@ pub fn fan() -> Sheet {
     s
 }
 
+/// Two fans of chains that meet between the margins, with these zones from bottom to top in the western one and in the eastern one; both
+/// lists begin with the same zone and end with the same one.
+pub fn two_fans(western: &[u32], eastern: &[u32]) -> Sheet {
+    let mut s = Sheet { west: 0, east: 4_000, zones: 0, vertices: vec![0, 0, 2_000, 0, 4_000, 0], edges: vec![] };
+    s.zones = 1 + western.iter().chain(eastern).max().expect("a zone");
+    for (from, x, list) in [(0, 1_000, western), (1, 3_000, eastern)] {
+        for (k, pair) in list.windows(2).enumerate() {
+            let v = s.vertices.len() as u32 / 2;
+            s.vertices.extend_from_slice(&[x, 3 * k as i32 - list.len() as i32]);
+            s.edges.extend_from_slice(&[from, v, pair[1], pair[0], v, from + 1, pair[1], pair[0]]);
+        }
+    }
+    s
+}
+
+/// Two fans of some of the same zones in any order, numbered at random: circles of all lengths, one or several, and zones above, below
+/// and between them.
+pub fn circling(r: &mut Random) -> Sheet {
+    let n = 2 + r.below(14) as usize;
+    let number: Vec<u32> = shuffled(r, n).iter().map(|&z| z as u32).collect();
+    let (mut western, mut eastern) = (vec![], vec![]);
+    for &z in &number[1..n - 1] {
+        let side = r.below(4);
+        if side != 0 {
+            western.push(z);
+        }
+        if side != 1 {
+            eastern.push(z);
+        }
+    }
+    for _ in 0..r.one(&[1, 2, 4, 40]) {
+        if eastern.len() > 1 {
+            let at = r.below(eastern.len() as u64 - 1) as usize;
+            eastern.swap(at, at + 1);
+        }
+    }
+    let between = |list: Vec<u32>| [vec![number[0]], list, vec![number[n - 1]]].concat();
+    two_fans(&between(western), &between(eastern))
+}
+
+/// As many zones as the vertices allow, each above the one before it, and a circle of the two with the highest numbers above them all but
+/// one: from every zone below, the look for circles goes through every zone above it.
+pub fn circle_at_the_top() -> Sheet {
+    at_the_top(&[0, 1_018, 1_017, 1_016])
+}
+
+/// The same edges with the two zones of the circle exchanged in the eastern fan, so that there is none.
+pub fn circle_undone() -> Sheet {
+    at_the_top(&[0, 1_017, 1_018, 1_016])
+}
+
+/// The zones 0 to 1,015, then 1,017, 1,018 and 1,016 from bottom to top in a western fan, and these in an eastern one.
+fn at_the_top(eastern: &[u32]) -> Sheet {
+    let western: Vec<u32> = (0..1_016).chain([1_017, 1_018, 1_016]).collect();
+    two_fans(&western, eastern)
+}
+
+/// The circle of document 01: two lenses with zone 3 above and zone 0 below, the left one with zone 2 over zone 1, the right one with
+/// zone 1 over zone 2.
+pub fn circle() -> Sheet {
+    let vertices = vec![0, 0, 2, 0, 4, 0, 1, 1, 1, -1, 3, 1, 3, -1];
+    let left = [0, 3, 3, 2, 3, 1, 3, 2, 0, 4, 1, 0, 4, 1, 1, 0, 0, 1, 2, 1];
+    let right = [1, 5, 3, 1, 5, 2, 3, 1, 1, 6, 2, 0, 6, 2, 2, 0, 1, 2, 1, 2];
+    Sheet { west: 0, east: 4, zones: 4, vertices, edges: [left, right].concat() }
+}
+
 /// The lens sheet of document 01.
 pub fn lens() -> Sheet {
     let (vertices, edges) = (vec![0, 0, 2, 2, 2, -2, 4, 0], vec![0, 1, 2, 1, 1, 3, 2, 1, 0, 2, 1, 0, 2, 3, 1, 0]);

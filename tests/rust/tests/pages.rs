@@ -3,7 +3,7 @@
 use std::{fs, path::Path};
 use thawweasel_tests::pages::{self, Lent, Page, Refusal, LONGEST, ROOM};
 use thawweasel_tests::texts::{self, DAMAGES};
-use thawweasel_tests::{calls, lent, lent_text, place_page, read_page, sheets, sheets::Sheet, write_page, Random, Tally};
+use thawweasel_tests::{calls, circles, lent, lent_text, place_page, read_page, sheets, sheets::Sheet, write_page, Random, Tally};
 
 /// Tables to lend, of so many words: vertices, edges, points.
 fn tables([vertices, edges, points]: [usize; 3]) -> Lent {
@@ -68,6 +68,20 @@ fn refused(text: &str) -> Option<Refusal> {
     Some((number.parse().ok()?, item.parse().ok()?))
 }
 
+/// The answer of an outside page as it is given now: a refusal 13 names another zone than the one that it named before P4.
+fn amended(page: &[u8], answer: String) -> String {
+    match (refused(&answer), pages::read(page)) {
+        (Some((13, before)), Ok(read)) => format!("refused 13 {}\n", circles::amended(&read.sheet.edges, read.sheet.zones, before)),
+        _ => answer,
+    }
+}
+
+/// The outside pages with their answers as they are given now.
+fn outside() -> Vec<(String, Vec<u8>, String)> {
+    let amend = |(name, page, answer): (String, Vec<u8>, String)| (name, page.clone(), amended(&page, answer));
+    kept("tests/vectors/pages").into_iter().map(amend).collect()
+}
+
 /// The pages kept in a folder: the name, the page, and the answer beside it.
 fn kept(folder: &str) -> Vec<(String, Vec<u8>, String)> {
     let folder = Path::new(env!("CARGO_MANIFEST_DIR")).join("../..").join(folder);
@@ -80,7 +94,7 @@ fn kept(folder: &str) -> Vec<(String, Vec<u8>, String)> {
 
 #[test]
 fn plain_means_print_the_outside_answers() {
-    let outside = kept("tests/vectors/pages");
+    let outside = outside();
     for (name, page, answer) in &outside {
         assert_eq!(&pages::place(page), answer, "{name}");
     }
@@ -89,8 +103,8 @@ fn plain_means_print_the_outside_answers() {
 
 #[test]
 fn every_kept_page_is_read_and_placed_as_its_answer_says() {
-    for folder in ["tests/vectors/pages", "tests/pages", "examples"] {
-        let list = kept(folder);
+    let lists = [("tests/vectors/pages", outside()), ("tests/pages", kept("tests/pages")), ("examples", kept("examples"))];
+    for (folder, list) in lists {
         for (name, page, answer) in &list {
             assert_eq!(&place(page, ROOM).1, answer, "{name}");
             let (number, line) = refused(answer).filter(|(number, _)| [1, 30, 31, 32].contains(number)).unwrap_or((0, 0));

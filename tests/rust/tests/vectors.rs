@@ -1,7 +1,8 @@
 //! Every line of the outside vectors, run against the proved opening, plain reading and quick search, and against document 01
-//! by brute force.
+//! by brute force. The vectors' refusal 13 names the zone that it named before P4: they say when it is given, and the zone that it names
+//! now is looked for by itself.
 use std::{fs, path::Path};
-use thawweasel_tests::{open, paper, read, search, sheets::Sheet};
+use thawweasel_tests::{circles, open, paper, read, search, sheets::Sheet};
 
 /// What every word holds before it is lent.
 const LENT: u32 = 0xA5A5_A5A5;
@@ -31,13 +32,18 @@ fn answer(name: &str, text: &str) -> [u32; 3] {
     }
 }
 
+/// A refusal as it is given now: 13 names the lowest zone on a circle, where the vector has the lowest with one at it or below it.
+fn amended(s: &Sheet, [number, item]: [u32; 2]) -> [u32; 2] {
+    [number, if number == 13 { circles::amended(&s.edges, s.zones, item) } else { item }]
+}
+
 /// Opens a sheet, and gives the lent words as they are afterwards.
 fn run_open(name: &str, line: &str, s: &Sheet) -> Vec<u32> {
     let (call, answer) = line.split_once("->").expect("an answer");
     let lent = vec![LENT; numbers::<usize>(call)[0]];
     let expected = match answer.trim().split_once(' ').expect("an answer") {
         ("opened", words) => ([0, 0], numbers(words)),
-        ("refused", values) => (numbers(values).try_into().expect("a number and an item"), lent.clone()),
+        ("refused", values) => (amended(s, numbers(values).try_into().expect("a number and an item")), lent.clone()),
         (other, _) => panic!("{name}: unknown answer {other}"),
     };
     let mut index = lent.clone();
@@ -49,7 +55,9 @@ fn run_open(name: &str, line: &str, s: &Sheet) -> Vec<u32> {
 /// Reads a point.
 fn run_read(name: &str, line: &str, s: &Sheet) {
     let (call, said) = line.split_once("->").expect("an answer");
-    let (point, expected) = (numbers::<i32>(call), answer(name, said));
+    let (point, [kind, number, item]) = (numbers::<i32>(call), answer(name, said));
+    let [number, item] = if kind == 0 { amended(s, [number, item]) } else { [number, item] };
+    let expected = [kind, number, item];
     assert_eq!(read(s, point[0], point[1]), expected, "{name}: {line}");
     assert_eq!(paper::read(s, point[0], point[1]).values(), expected, "by brute force, {name}: {line}");
 }
@@ -75,7 +83,7 @@ fn run_search(name: &str, line: &str, s: &Sheet, index: &[u32]) {
 #[test]
 fn every_sheet_opened_and_every_point_read_and_searched_as_the_vectors_say() {
     let folder = Path::new(env!("CARGO_MANIFEST_DIR")).join("../vectors");
-    let (mut sheets, mut opens, mut reads, mut lent, mut searches) = (0, 0, 0, 0, 0);
+    let (mut sheets, mut opens, mut reads, mut lent, mut searches, mut circles, mut moved) = (0, 0, 0, 0, 0, 0, 0);
     for entry in fs::read_dir(folder).unwrap() {
         let path = entry.unwrap().path();
         let name = path.file_name().unwrap().to_string_lossy().into_owned();
@@ -87,7 +95,13 @@ fn every_sheet_opened_and_every_point_read_and_searched_as_the_vectors_say() {
             let (call, rest) = line.split_once(' ').unwrap_or((line, ""));
             match call {
                 "sheet" => (s, sheets) = (sheet(rest), sheets + 1),
-                "open" => (index, opens) = (run_open(&name, rest, &s), opens + 1),
+                "open" => {
+                    (index, opens) = (run_open(&name, rest, &s), opens + 1);
+                    if let Some((_, zone)) = rest.split_once("refused 13 ") {
+                        circles += 1;
+                        moved += (amended(&s, [13, numbers(zone)[0]])[1] != numbers(zone)[0]) as usize;
+                    }
+                }
                 "lend" => (index, lent) = (numbers(rest), lent + 1),
                 "read" => {
                     run_read(&name, rest, &s);
@@ -103,5 +117,6 @@ fn every_sheet_opened_and_every_point_read_and_searched_as_the_vectors_say() {
     }
     println!("vectors: {} lines", sheets + opens + reads + lent + searches);
     println!("  {sheets} sheets, {opens} openings, {reads} readings, {lent} lent indexes, {searches} searches");
-    assert!([sheets, opens, reads, lent, searches].iter().all(|&n| n > 0), "no vector of a kind was run");
+    println!("  {circles} openings refused 13, {moved} of them with another zone than before P4");
+    assert!([sheets, opens, reads, lent, searches, circles, moved].iter().all(|&n| n > 0), "no vector of a kind was run");
 }

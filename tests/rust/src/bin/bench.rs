@@ -1,7 +1,7 @@
-//! How long the three calls and the look for repeated points take, beside the same in plain safe Rust and beside brute force: one run,
-//! medians of rounds in which each takes its turn, and the medians of the rounds' ratios, as two tables.
+//! How long the three calls, the look for repeated points and the look for circles take, beside the same in plain safe Rust and beside
+//! brute force: one run, medians of rounds in which each takes its turn, and the medians of the rounds' ratios, as three tables.
 use std::{hint::black_box, time::Instant};
-use thawweasel_tests::{first_repeat, open, paper, plain::Tables, read, search, sheets, sheets::Sheet, Random};
+use thawweasel_tests::{circles::Steps, first_repeat, open, paper, plain::Tables, read, search, sheets, sheets::Sheet, Random};
 
 /// How often each way takes its turn.
 const ROUNDS: usize = 31;
@@ -176,6 +176,34 @@ fn repeats_in_orders(r: &mut Random) {
     repeats("on one abscissa, sorted", &upward);
 }
 
+/// Times opening where it refuses 13 after the longest look for circles, beside opening where the same edges have no circle, and beside
+/// the closure of all steps.
+fn circles() {
+    let (s, alike) = (sheets::circle_at_the_top(), sheets::circle_undone());
+    let (bad, good) = (Tables::from(&s), Tables::from(&alike));
+    let (mut index, named) = (vec![0; s.need()], Steps::of(&s.edges, s.zones).named().expect("a circle"));
+    assert_eq!((open(&s, &mut index), bad.open(&mut index)), ([13, named], [13, named]));
+    assert_eq!((open(&alike, &mut index), good.open(&mut index)), ([0, 0], [0, 0]));
+    let ((zone, steps), n, m) = (bad.lowest_on_circle(), s.zones as usize, s.edges.len() / 4);
+    assert_eq!(zone, Some(named));
+    println!("\n| {n} zones, {m} edges | refused 13 | accepted alike | closure of all steps | refused / accepted | refused / closure |");
+    println!("|---|---|---|---|---|---|");
+    let (mut ours, mut theirs) = (index.clone(), index.clone());
+    let closure = || assert_eq!(black_box(Steps::of(&s.edges, s.zones)).named(), Some(named));
+    row("open, proved", [
+        (4, Box::new(|| (0..4).for_each(|_| assert_eq!(black_box(open(&s, &mut ours))[0], 13)))),
+        (4, Box::new(|| (0..4).for_each(|_| assert_eq!(black_box(open(&alike, &mut theirs)), [0, 0])))),
+        (1, Box::new(closure)),
+    ]);
+    let (mut ours, mut theirs) = (index.clone(), index);
+    row("open, plain Rust", [
+        (4, Box::new(|| (0..4).for_each(|_| assert_eq!(black_box(bad.open(&mut ours))[0], 13)))),
+        (4, Box::new(|| (0..4).for_each(|_| assert_eq!(black_box(good.open(&mut theirs)), [0, 0])))),
+        (1, Box::new(closure)),
+    ]);
+    println!("\nThe look for circles takes {steps} steps there (zones gone through, and edges over them), {:.2} of n x m.", steps as f64 / (n * m) as f64);
+}
+
 fn main() {
     let mut r = Random::new("bench", 21);
     println!("| call | edges | points | lent words | proved | plain Rust | brute force | proved / plain | proved / brute |");
@@ -194,4 +222,5 @@ fn main() {
         opening(&s, true);
     }
     repeats_in_orders(&mut r);
+    circles();
 }

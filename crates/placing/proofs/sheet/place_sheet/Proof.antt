@@ -59,7 +59,7 @@ place-points-requires : tie.Need-place-points-requires
 place-points-requires c κs =
     let o = c .before .before .before .before .before .before in
     let e = c .before .before .enum-told .given .1 in
-    ((o .open-sheet .ensures .1 .1 .0 .0 e .0, o .open-sheet .ensures .1 .1 .1 .1 .1 .1 e), omega arith)
+    ((o .open-sheet .ensures .1 .1 .0 .0 e .0, o .open-sheet .ensures .1 .1 .1 .1 .1 .1 .0 e), omega arith)
 
 same-length : tie.Need-same-length
 same-length c = search needs

@@ -1,4 +1,4 @@
--- Refusal 12 by its scan; then the line leaves a zone, which refusal 13 names, or is written over.
+-- Refusal 12 by its scan; then the line leaves a zone, and refusal 13 names the lowest on a circle, or it is written over.
 use mathlib.Core.Path.{_≡_, refl, sym, ap, _∙_}
 use mathlib.Core.Bool.{true, false, not}
 use mathlib.Core.List.{List, [], _∷_}
@@ -14,9 +14,9 @@ use Rattle.subdivision.specs.Lists.{put}
 use Rattle.subdivision.specs.Lowest.{lowest}
 use Rattle.subdivision.specs.Sheet.{Sheet, sheetOf, edgeCount, zoneCount, aboveOf, belowOf}
 use Rattle.subdivision.specs.Rules.{zoneNamed}
-use Rattle.subdivision.specs.ZoneLine.{isIn, zoneLine}
+use Rattle.subdivision.specs.ZoneLine.{isIn, zoneLine, onCircle}
 use Rattle.subdivision.specs.Refusals.{judged, countsKept, limitRefusals, circleRefusal}
-use Rattle.theory.proofs.Circles.{judged-circle-kept, judged-circle-broken}
+use Rattle.theory.proofs.Circles.{judged-circle-kept, judged-circle-broken, circle-of-edges}
 use Rattle.theory.proofs.Judgement.{passed-keeps}
 use Rattle.theory.proofs.Lowest.{lowest-le}
 use Rattle.theory.proofs.ZoneLine.{line-of-edges}
@@ -75,13 +75,26 @@ chosen-below r n a b h = rw (lt-ltb r n h)
 chosen-not-below : (r n : ℕ) (a b : List ℕ) → n ≤ r → _≡_ {A = List ℕ} (elim (ltb r n) [ true ↦ a | false ↦ b ]) b
 chosen-not-below r n a b h = rw (le-ltb r n h)
 
+lowest-on-circle-requires : tie.Need-lowest-on-circle-requires
+lowest-on-circle-requires c κs =
+    let start = c .before .before .before .before .before .before .before .before in
+    let k = counts start in
+    ((omega arith, omega arith), λ e h. named start e h .0)
+
+-- the lowest zone on a circle of the sheet
+circle : (c : tie.After-lowest-on-circle)
+    → c .lowest-on-circle .result ≡ lowest (λ z. holds (onCircle (tables (c .before .before .before .before .before .before .before .before .before)) z)) (zoneCount (tables (c .before .before .before .before .before .before .before .before .before)))
+circle c =
+    let a = c .before .before .before .before .before .before .before .before .before .args in
+    c .lowest-on-circle .ensures ∙ sym (λ i. lowest (λ z. holds (circle-of-edges (a .west) (a .east) (a .vertices .now) (a .edges .now) (a .zones) z i)) (a .zones))
+
 returns-2 : tie.Need-returns-2
 returns-2 c =
-    let start = c .before .before .before .before .before .before .before .before in
-    let t = c .before .before .line-through in
+    let start = c .before .before .before .before .before .before .before .before .before in
+    let t = c .before .before .before .line-through in
     let s = tables start in
-    let some : lowest (λ z. not (holds (isIn z (zoneLine s)))) (zoneCount s) < zoneCount s = omega (arith, left (c .before .before)) in
-    (ap (Verdict.Refused 13) (left (c .before .before)) ∙ sym (judged-circle-broken s (named start) some) ∙ sym (passed-12 (c .before .before .before .before .before)), t .ensures .1 .1 ∙ chosen-below (t .result) (start .args .zones) (start .args .line .now) (put (zoneLine (zonesOf (start .args .edges .now) (start .args .zones))) (start .args .line .now)) (c .if2 .taken))
+    let some : lowest (λ z. not (holds (isIn z (zoneLine s)))) (zoneCount s) < zoneCount s = omega (arith, left (c .before .before .before)) in
+    (ap (Verdict.Refused 13) (circle c) ∙ sym (judged-circle-broken s (named start) some) ∙ sym (passed-12 (c .before .before .before .before .before .before)), t .ensures .1 .1 ∙ chosen-below (t .result) (start .args .zones) (start .args .line .now) (put (zoneLine (zonesOf (start .args .edges .now) (start .args .zones))) (start .args .line .now)) (c .before .if2 .taken))
 
 returns-3 : tie.Need-returns-3
 returns-3 c =
@@ -99,5 +112,6 @@ judge-zones-spec =
     returns
     slice-aggregate-line-through
     line-through-requires
+    lowest-on-circle-requires
     returns-2
     returns-3)

@@ -1,0 +1,2 @@
+-- What the private functions of `circles` promise.
+pub mod Looking
