@@ -1,4 +1,4 @@
--- Rule 7 of document 01: the line of zones; and the circles that refusal 13 speaks of.
+-- Rule 7 of document 01: the line of zones; and the circles that refusal 13 speaks of, as document 02's P4 has it.
 use mathlib.Core.Path.{_≡_}
 use mathlib.Core.Bool.{true, false}
 use mathlib.Core.List.{List, [], _∷_, _++_}
@@ -66,6 +66,6 @@ module _ (s : Sheet) where
   abbrev pub onCircle : ℕ → Formula
   onCircle c = someBelow (edgeCount s) (λ e. both (isEqual (belowOf s e) c) (leads (zoneCount s) (aboveOf s e) c))
 
-  -- zone z has a circle at it or below it
+  -- zone z has a circle at it or below it: the zones that refusal 13 spoke of before P4
   abbrev pub aboveCircle : ℕ → Formula
   aboveCircle z = someBelow (zoneCount s) (λ c. both (onCircle c) (leads (zoneCount s) c z))

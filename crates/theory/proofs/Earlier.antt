@@ -39,7 +39,7 @@ module _ (number items : ℕ) (kept : Formula) where
         let n = own-given before (λ k. some (g .0, k)) item (g .1) in (n .0, inr (g .0, n .1))
 
 module _ (s : Sheet) where
-  -- the lines before 13 are kept, those about the records among them
+  -- a line 13 names some zone where the lines before it are kept and rule 7 is not
   abbrev Names13 : Refusal → List Refusal → Type 0
   Names13 r before = AllKept before → (Means (rule7 s) → ⊥) → (i : ℕ) × Named r i
 

@@ -121,18 +121,18 @@ module _ (s : Sheet) where
           group-holds lowerKey (inOrder lowerKey (edgeCount s)) (edgeCount s) (sorted-below lowerKey (edgeCount s)) zone e h (omega arith) (omega arith)
 
   -- a step up leads from x to y
-  abbrev Step : ℕ → ℕ → Type 0
-  Step x y = (e : ℕ) × (e < edgeCount s) × ((belowOf s e ≡ x) × (aboveOf s e ≡ y))
+  abbrev StepUp : ℕ → ℕ → Type 0
+  StepUp x y = (e : ℕ) × (e < edgeCount s) × ((belowOf s e ≡ x) × (aboveOf s e ≡ y))
 
   module _ (zone : ℕ) (run : List ℕ) (over : RunOver zone run) (l : List ℕ) where
     -- the list with the first so many
     abbrev grown : ℕ → List ℕ
     grown k = withAbove (s .edges) run l k
 
-    above-grown : (k : ℕ) → k ≤ length run → Grown (Step zone) l (grown k)
-    above-grown zero h = grown-not (Step zone) l
+    above-grown : (k : ℕ) → k ≤ length run → Grown (StepUp zone) l (grown k)
+    above-grown zero h = grown-not (StepUp zone) l
     above-grown (suc k) h =
-        grown-with (Step zone) l (grown k) (aboveOf s (getD run k 0)) (above-grown k (omega arith)) (getD run k 0, over .own k h .0, (over .own k h .1, refl))
+        grown-with (StepUp zone) l (grown k) (aboveOf s (getD run k 0)) (above-grown k (omega arith)) (getD run k 0, over .own k h .0, (over .own k h .1, refl))
 
     above-in : (k j : ℕ) → j < k → k ≤ length run → Means (isIn (aboveOf s (getD run j 0)) (grown k))
     above-in zero j b h = absurd (not-suc-le-zero b)
@@ -146,7 +146,7 @@ module _ (s : Sheet) where
 
         held-on : Means (isIn (aboveOf s (getD run j 0)) (grown k)) → Means (isIn (aboveOf s (getD run j 0)) (grown (suc k)))
         held-on =
-            grown-with (Step zone) (grown k) (grown k) y (grown-not (Step zone) (grown k)) (getD run k 0, over .own k h .0, (over .own k h .1, refl)) .still (aboveOf s (getD run j 0))
+            grown-with (StepUp zone) (grown k) (grown k) y (grown-not (StepUp zone) (grown k)) (getD run k 0, over .own k h .0, (over .own k h .1, refl)) .still (aboveOf s (getD run j 0))
 
     -- with the whole run, every step up from the zone leads into the list
     above-all : (e : ℕ) → e < edgeCount s → belowOf s e ≡ zone → Means (isIn (aboveOf s e) (grown (length run)))
@@ -175,7 +175,7 @@ module _ (s : Sheet) where
     reached-first run over =
         record { steps = λ i h. one i (above-grown z run over [] (length run) (le-refl (length run)) .new i (omega arith) h); first = above-all z run over []; onward = λ i h. absurd (not-suc-le-zero h) }
       where
-        one : {y : ℕ} (i : ℕ) → Step z y → (e : ℕ) × (e < edgeCount s) × ((belowOf s e ≡ z) × Means (leads s i (aboveOf s e) y))
+        one : {y : ℕ} (i : ℕ) → StepUp z y → (e : ℕ) × (e < edgeCount s) × ((belowOf s e ≡ z) × Means (leads s i (aboveOf s e) y))
         one {y} i (e, h, (b, a)) = (e, h, (b, leads-more s 0 i (aboveOf s e) y (omega arith) a))
 
     -- the steps up from the entry at the head are taken
@@ -186,7 +186,7 @@ module _ (s : Sheet) where
         m : List ℕ
         m = withAbove (s .edges) run l (length run)
 
-        g : Grown (Step (getD l head 0)) l m
+        g : Grown (StepUp (getD l head 0)) l m
         g = above-grown (getD l head 0) run over l (length run) (le-refl (length run))
 
         steps : (i : ℕ) → i < length m → (e : ℕ) × (e < edgeCount s) × ((belowOf s e ≡ z) × Means (leads s i (aboveOf s e) (getD m i 0)))
@@ -198,7 +198,7 @@ module _ (s : Sheet) where
             one-more f k b far (e, q, (c, t)) =
                 (e, q, (c, leads-more s (suc head) i (aboveOf s e) (aboveOf s f) (omega arith) (leads-onward s head (aboveOf s e) (getD l head 0) f k b t)))
 
-            far-step : length l ≤ i → Step (getD l head 0) (getD m i 0)
+            far-step : length l ≤ i → StepUp (getD l head 0) (getD m i 0)
                 → (e : ℕ) × (e < edgeCount s) × ((belowOf s e ≡ z) × Means (leads s i (aboveOf s e) (getD m i 0)))
             far-step far (f, k, (b, a)) = rw (← a) (one-more f k b far (r .steps head here))
 

@@ -144,6 +144,12 @@ fn a_stack_of_128_kib_is_enough() {
         };
         thread::Builder::new().stack_size(128 << 10).spawn(calls).unwrap().join().unwrap();
     }
+    let circle = || {
+        let s = sheets::circle_at_the_top();
+        assert_eq!(open(&s, &mut vec![0; s.need()]), [13, 1_017]);
+        assert_eq!(read(&s, s.west, 0), [0, 13, 1_017]);
+    };
+    thread::Builder::new().stack_size(128 << 10).spawn(circle).unwrap().join().unwrap();
 }
 
 #[test]
