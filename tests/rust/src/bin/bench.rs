@@ -176,8 +176,8 @@ fn repeats_in_orders(r: &mut Random) {
     repeats("on one abscissa, sorted", &upward);
 }
 
-/// Times opening where it refuses 13 after the longest look for circles, beside opening where the same edges have no circle, and beside
-/// the closure of all steps.
+/// Times opening where it refuses 13 after a long look for circles, beside opening where the same edges have no circle, and beside the
+/// closure of all steps.
 fn circles() {
     let (s, alike) = (sheets::circle_at_the_top(), sheets::circle_undone());
     let (bad, good) = (Tables::from(&s), Tables::from(&alike));
