@@ -2,7 +2,7 @@
 # eleven of them on boundaries or off the sheet, by a Rust program over the C ABI. cases: document 01's worked cases.
 # test: every proof, every must-fail edit, every program, the Rust tests, the README's examples, the program on every kept page,
 # the month that run shows.
-# bench: how long opening, reading, searching and the look for repeated points take, beside plain Rust and brute force.
+# bench: how long opening, reading, searching and the looks for repeated points and for circles take, beside plain Rust and brute force.
 .PHONY: run cases test bench
 
 run:

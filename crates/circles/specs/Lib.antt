@@ -1,2 +1,3 @@
--- What the private functions of `circles` promise.
+-- What the functions of `circles` ask and keep.
+pub mod Grouped
 pub mod Looking

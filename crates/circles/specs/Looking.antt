@@ -2,11 +2,10 @@
 use mathlib.Core.Path.{_≡_}
 use mathlib.Core.Bool.{true, false}
 use mathlib.Core.List.{List, []}
-use Prim.Native.Nat.{ℕ, _/_, _<_}
+use Prim.Native.Nat.{ℕ, _<_}
 use lib.ListN.{length, getD, take}
 use Rattle.subdivision.specs.Formula.{holds}
 use Rattle.subdivision.specs.Lists.{tab}
-use Rattle.subdivision.specs.Sheet.{edgeAbove}
 use Rattle.subdivision.specs.ZoneLine.{isIn}
 use Rattle.line.specs.Waiting.{zonesOf}
 use Rattle.theory.proofs.Reached.{Fits}
@@ -14,10 +13,6 @@ use Rattle.theory.proofs.Reached.{Fits}
 -- the mark of zone y: 1 where it stands in the list, otherwise 0
 abbrev pub markOf : List ℕ → ℕ → ℕ
 markOf l y = elim (holds (isIn y l)) [ true ↦ 1 | false ↦ 0 ]
-
--- every edge names a zone above that exists
-abbrev pub NamedAbove : List ℕ → ℕ → Type 0
-NamedAbove edges zones = (e : ℕ) → e < length edges / 4 → edgeAbove edges e < zones
 
 -- the first so many words of the queue are zones, each once; the marks are theirs, and the queue has a place for each zone
 pub record Looking (marks queue : List ℕ) (count : ℕ) : Type 0 where

@@ -10,13 +10,10 @@ ghost use Prim.Native.Nat.{suc, _<_, _≤_, _/_};
 ghost use lib.ListN.{length, replicate};
 ghost use Rattle.subdivision.specs.Limits.{maxEdges, maxZones};
 ghost use Rattle.subdivision.specs.Formula.{holds};
-ghost use Rattle.subdivision.specs.Lists.{tab};
 ghost use Rattle.subdivision.specs.Lowest.{lowest};
-ghost use Rattle.subdivision.specs.Order.{inOrder};
 ghost use Rattle.subdivision.specs.ZoneLine.{onCircle};
-ghost use Rattle.theory.proofs.Groups.{groupStart};
-ghost use Rattle.line.specs.Waiting.{zonesOf, belowKey};
-ghost use Rattle.circles.specs.Looking.{NamedAbove};
+ghost use Rattle.line.specs.Waiting.{zonesOf};
+ghost use Rattle.circles.specs.Grouped.{NamedAbove, Grouped};
 
 // The lowest zone that is itself on a circle; `zones` where none is.
 pub fn lowest_on_circle(edges: &[u32], zones: u32) -> u32
@@ -43,8 +40,7 @@ fn look(edges: &[u32], zones: u32, order: &mut [u32], begin: &mut [u32]) -> u32
 // The same, with the edges sorted by their zone below, and told where the edges above each zone begin.
 fn first_on_circle(edges: &[u32], order: &[u32], begin: &[u32], zones: u32) -> u32
     requires { ⌜ (zones ≤ maxZones) × NamedAbove (now edges) zones ⌝ }
-    requires { ⌜ now order ≡ inOrder (belowKey (now edges)) (length (now edges) / 4) ⌝ }
-    requires { ⌜ now begin ≡ tab (groupStart (belowKey (now edges)) (now order)) (suc zones) ⌝ }
+    requires { ⌜ Grouped (now edges) (now order) (now begin) zones ⌝ }
     ensures { λ r. ⌜ r ≡ lowest (λ z. holds (onCircle (zonesOf (now (edges .entry)) zones) z)) zones ⌝ }
 {
     let mut rest = zones;
@@ -61,8 +57,7 @@ fn first_on_circle(edges: &[u32], order: &[u32], begin: &[u32], zones: u32) -> u
 // Whether a zone is on a circle.
 fn on_circle(edges: &[u32], order: &[u32], begin: &[u32], zone: u32, zones: u32) -> bool
     requires { ⌜ ((zone < zones) × (zones ≤ maxZones)) × NamedAbove (now edges) zones ⌝ }
-    requires { ⌜ now order ≡ inOrder (belowKey (now edges)) (length (now edges) / 4) ⌝ }
-    requires { ⌜ now begin ≡ tab (groupStart (belowKey (now edges)) (now order)) (suc zones) ⌝ }
+    requires { ⌜ Grouped (now edges) (now order) (now begin) zones ⌝ }
     ensures { λ r. ⌜ r ≡ holds (onCircle (zonesOf (now (edges .entry)) zones) zone) ⌝ }
 {
     let mut marks = [0u32; MAX_ZONES];
@@ -83,8 +78,7 @@ fn comes_back(
 ) -> bool
     requires { ⌜ ((zone < length (now marks)) × (length (now marks) ≤ maxZones)) × NamedAbove (now edges) (length (now marks)) ⌝ }
     requires { ⌜ (now marks ≡ replicate (length (now marks)) 0) × (length (now queue) ≡ length (now marks)) ⌝ }
-    requires { ⌜ now order ≡ inOrder (belowKey (now edges)) (length (now edges) / 4) ⌝ }
-    requires { ⌜ now begin ≡ tab (groupStart (belowKey (now edges)) (now order)) (suc (length (now marks))) ⌝ }
+    requires { ⌜ Grouped (now edges) (now order) (now begin) (length (now marks)) ⌝ }
     ensures { λ r. ⌜ r ≡ holds (onCircle (zonesOf (now (edges .entry)) (length (now (marks .entry)))) zone) ⌝ }
 {
     let mut count = spread(edges, order, begin, zone, marks, queue, 0);

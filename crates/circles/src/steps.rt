@@ -1,15 +1,13 @@
 use tables::edge_above;
 ghost use mathlib.Core.Path.{_≡_};
-ghost use Prim.Native.Nat.{ℕ, suc, _<_, _≤_, _/_};
+ghost use Prim.Native.Nat.{ℕ, _<_, _≤_};
 ghost use lib.ListN.{length, getD, take};
 ghost use Rattle.subdivision.specs.Limits.{maxZones};
-ghost use Rattle.subdivision.specs.Lists.{tab};
-ghost use Rattle.subdivision.specs.Order.{inOrder};
 ghost use Rattle.subdivision.specs.Sheet.{edgeAbove};
-ghost use Rattle.theory.proofs.Groups.{groupStart};
 ghost use Rattle.theory.proofs.Reached.{withZone, withAbove, runOf};
-ghost use Rattle.line.specs.Waiting.{zonesOf, belowKey};
-ghost use Rattle.circles.specs.Looking.{Looking, NamedAbove};
+ghost use Rattle.line.specs.Waiting.{zonesOf};
+ghost use Rattle.circles.specs.Grouped.{NamedAbove, Grouped};
+ghost use Rattle.circles.specs.Looking.{Looking};
 
 // Queues the zones above a zone, each unless it is queued already. The answer is how many are queued.
 pub fn spread(
@@ -22,8 +20,7 @@ pub fn spread(
     count: u32,
 ) -> u32
     requires { ⌜ ((zone < length (now marks)) × (length (now marks) ≤ maxZones)) × NamedAbove (now edges) (length (now marks)) ⌝ }
-    requires { ⌜ now order ≡ inOrder (belowKey (now edges)) (length (now edges) / 4) ⌝ }
-    requires { ⌜ now begin ≡ tab (groupStart (belowKey (now edges)) (now order)) (suc (length (now marks))) ⌝ }
+    requires { ⌜ Grouped (now edges) (now order) (now begin) (length (now marks)) ⌝ }
     requires { ⌜ Looking (now marks) (now queue) count ⌝ }
     ensures queued { λ r. ⌜ take r (now (queue .exit)) ≡ withAbove (now (edges .entry)) (runOf (zonesOf (now (edges .entry)) (length (now (marks .entry)))) zone) (take count (now (queue .entry))) (length (runOf (zonesOf (now (edges .entry)) (length (now (marks .entry)))) zone)) ⌝ }
     ensures looking { λ r. ⌜ Looking (now (marks .exit)) (now (queue .exit)) r ⌝ }

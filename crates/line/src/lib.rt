@@ -1,4 +1,4 @@
-// Rule 7: the line of zones, and the zone that refusal 13 names.
+// Rule 7: the line of zones, and the lowest zone that it does not place.
 mod words;
 
 use crate::words::count_under;

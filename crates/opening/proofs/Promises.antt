@@ -11,7 +11,7 @@ use Rattle.subdivision.specs.Lists.{put}
 use Rattle.subdivision.specs.Layout.{indexNeed}
 use Rattle.subdivision.specs.Sheet.{Sheet, edgeCount, zoneCount}
 use Rattle.subdivision.specs.Refusals.{judged, limitRefusals, roomRefusal, ruleRefusals}
-use Rattle.subdivision.specs.Faults.{GivenBy, openingRefusals, tableRefusals}
+use Rattle.subdivision.specs.Faults.{GivenBy, LowestOnCircle, openingRefusals, tableRefusals}
 use Rattle.subdivision.specs.Accepted.{Accepted}
 use Rattle.subdivision.specs.Earlier.{earlierOpeningRefusals, GivenAsBefore}
 use Rattle.subdivision.specs.Index.{indexWords}
@@ -19,6 +19,7 @@ use Rattle.subdivision.specs.Engine.{HoldsIndex}
 use Rattle.subdivision.specs.Calls.{opening}
 use Rattle.theory.proofs.Decide.{held, fails}
 use Rattle.theory.proofs.Judgement.{refused-first, passed-first, none-named}
+use Rattle.theory.proofs.CircleZones.{opening-circle}
 use Rattle.theory.proofs.Earlier.{opening-as-before, given-as-before}
 use Rattle.theory.proofs.Faults.{opened-exactly, refused-exactly}
 use Rattle.theory.proofs.HeldIndex.{words-long, written-holds}
@@ -34,7 +35,8 @@ module _ (s : Sheet) (index : List ℕ) where
       × ((v ≡ Verdict.Passed → (left ≡ put (indexWords s) index) × (length (indexWords s) ≡ indexNeed (zoneCount s) (edgeCount s)))
       × (((number item : ℕ) → v ≡ Verdict.Refused number item → left ≡ index)
       × ((v ≡ Verdict.Passed → HoldsIndex s left)
-      × GivenAsBefore (earlierOpeningRefusals s (length index)) (λ number item. v ≡ Verdict.Refused number item)))))))
+      × (((item : ℕ) → v ≡ Verdict.Refused 13 item → LowestOnCircle s item)
+      × GivenAsBefore (earlierOpeningRefusals s (length index)) (λ number item. v ≡ Verdict.Refused number item))))))))
 
   -- a verdict, as the rules' statements
   says : (v : Verdict) → judged (openingRefusals s (length index)) ≡ v
@@ -44,11 +46,12 @@ module _ (s : Sheet) (index : List ℕ) where
       subst (λ (w : Verdict). ((w ≡ Verdict.Passed) ↔ (Accepted s × (indexNeed (zoneCount s) (edgeCount s) ≤ length index))) × ((number item : ℕ) → (w ≡ Verdict.Refused number item) ↔ GivenBy (openingRefusals s (length index)) number item)) e
       (opened-exactly s (length index), refused-exactly s (length index))
 
-  -- its refusals are given as before
+  -- its 13 names the lowest zone on a circle, and its refusals are given as before
   given : (v : Verdict) → ((number item : ℕ) → (v ≡ Verdict.Refused number item) ↔ GivenBy (openingRefusals s (length index)) number item)
-      → GivenAsBefore (earlierOpeningRefusals s (length index)) (λ number item. v ≡ Verdict.Refused number item)
+      → ((item : ℕ) → v ≡ Verdict.Refused 13 item → LowestOnCircle s item)
+      × GivenAsBefore (earlierOpeningRefusals s (length index)) (λ number item. v ≡ Verdict.Refused number item)
   given v exactly =
-      given-as-before (openingRefusals s (length index)) (earlierOpeningRefusals s (length index)) (λ number item. v ≡ Verdict.Refused number item) exactly (opening-as-before s (length index))
+      (λ item g. opening-circle s (length index) item (exactly 13 item .0 g), given-as-before (openingRefusals s (length index)) (earlierOpeningRefusals s (length index)) (λ number item. v ≡ Verdict.Refused number item) exactly (opening-as-before s (length index)))
 
   -- a refusal leaves the words as they were
   pub refusal-promised : (number item : ℕ) → judged (openingRefusals s (length index)) ≡ Verdict.Refused number item → Promised (Verdict.Refused number item) index

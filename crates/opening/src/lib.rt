@@ -10,7 +10,7 @@ ghost use Rattle.subdivision.specs.declared.Verdict.{Verdict};
 ghost use Rattle.subdivision.specs.Lists.{put};
 ghost use Rattle.subdivision.specs.Layout.{indexNeed};
 ghost use Rattle.subdivision.specs.Sheet.{sheetOf};
-ghost use Rattle.subdivision.specs.Faults.{GivenBy, openingRefusals};
+ghost use Rattle.subdivision.specs.Faults.{GivenBy, LowestOnCircle, openingRefusals};
 ghost use Rattle.subdivision.specs.Accepted.{Accepted};
 ghost use Rattle.subdivision.specs.Earlier.{earlierOpeningRefusals, GivenAsBefore};
 ghost use Rattle.subdivision.specs.Index.{indexWords};
@@ -33,6 +33,7 @@ pub fn open_sheet(
     ensures written { λ r. ⌜ (r ≡ Verdict.Passed → (now (index .exit) ≡ put (indexWords (sheetOf west east (now (vertices .entry)) (now (edges .entry)) zones)) (now (index .entry))) × (length (indexWords (sheetOf west east (now (vertices .entry)) (now (edges .entry)) zones)) ≡ indexNeed zones (length (now (edges .entry)) / 4))) ⌝ }
     ensures untouched { λ r. ⌜ ((number item : ℕ) → r ≡ Verdict.Refused number item → now (index .exit) ≡ now (index .entry)) ⌝ }
     ensures indexed { λ r. ⌜ (r ≡ Verdict.Passed → HoldsIndex (sheetOf west east (now (vertices .entry)) (now (edges .entry)) zones) (now (index .exit))) ⌝ }
+    ensures circle { λ r. ⌜ ((item : ℕ) → r ≡ Verdict.Refused 13 item → LowestOnCircle (sheetOf west east (now (vertices .entry)) (now (edges .entry)) zones) item) ⌝ }
     ensures as_before { λ r. ⌜ GivenAsBefore (earlierOpeningRefusals (sheetOf west east (now (vertices .entry)) (now (edges .entry)) zones) (length (now (index .entry)))) (λ number item. r ≡ Verdict.Refused number item) ⌝ }
 {
     match sheet::limits(west, east, vertices, edges, zones) {

@@ -18,7 +18,7 @@ use Rattle.subdivision.specs.Sheet.{Sheet, shifted, eastMargin, vertexCount, ed
 use Rattle.subdivision.specs.Neighbours.{isHighest}
 use Rattle.subdivision.specs.ZoneLine.{zoneLine}
 use Rattle.subdivision.specs.Refusals.{names, unnamed, judged}
-use Rattle.subdivision.specs.Faults.{GivenBy, tableRefusals, readingRefusals}
+use Rattle.subdivision.specs.Faults.{GivenBy, LowestOnCircle, tableRefusals, readingRefusals}
 use Rattle.subdivision.specs.Accepted.{Accepted}
 use Rattle.subdivision.specs.Reading.{onSheet, firstZone, readingLine, beneath, zoneBeneath, plainReading}
 use Rattle.subdivision.specs.Earlier.{earlierReadingRefusals, GivenAsBefore}
@@ -27,6 +27,7 @@ use Rattle.subdivision.specs.Calls.{reading}
 use Rattle.theory.proofs.Chains.{accepted-line}
 use Rattle.theory.proofs.Decide.{means}
 use Rattle.theory.proofs.Judgement.{judged-append, none-named, accepted-decides}
+use Rattle.theory.proofs.CircleZones.{reading-circle}
 use Rattle.theory.proofs.Earlier.{reading-as-before, given-as-before}
 use Rattle.theory.proofs.Faults.{reading-refused-exactly}
 use Rattle.theory.proofs.OneThing.{by-plain, one-thing, accepted-reads}
@@ -76,7 +77,8 @@ module _ (s : Sheet) (x y : ℤ) where
       × (((number item : ℕ) → (r ≡ Answer.Refused number item) ↔ GivenBy (readingRefusals s (shifted x) (shifted y)) number item)
       × (OneThingOnly s (shifted x) (shifted y) r
       × (ReadingsAgree s (shifted x) (shifted y) r
-      × GivenAsBefore (earlierReadingRefusals s (shifted x) (shifted y)) (λ number item. r ≡ Answer.Refused number item))))
+      × (((item : ℕ) → r ≡ Answer.Refused 13 item → LowestOnCircle s item)
+      × GivenAsBefore (earlierReadingRefusals s (shifted x) (shifted y)) (λ number item. r ≡ Answer.Refused number item)))))
 
   -- the answer that a verdict comes to
   abbrev answerTo : Verdict → Answer
@@ -119,7 +121,7 @@ module _ (s : Sheet) (x y : ℤ) where
 
   -- the answer that the definition gives keeps every promise
   promised : (r : Answer) → r ≡ reading s x y → Promised r
-  promised r e = subst Promised (sym e) (refl, (refused-exactly, (in-one-thing, (in-zone, as-before))))
+  promised r e = subst Promised (sym e) (refl, (refused-exactly, (in-one-thing, (in-zone, (λ item g. reading-circle s (shifted x) (shifted y) item (refused-exactly 13 item .0 g), as-before)))))
     where
       in-one-thing : OneThingOnly s (shifted x) (shifted y) (reading s x y)
       in-one-thing a o = rw (accepted-reads s a x y o) (one-thing s a (shifted x) (shifted y) o)

@@ -10,7 +10,7 @@ ghost use mathlib.Core.Logic.{_↔_};
 ghost use Prim.Native.Nat.{ℕ};
 ghost use Rattle.subdivision.specs.declared.Answer.{Answer};
 ghost use Rattle.subdivision.specs.Sheet.{shifted, sheetOf};
-ghost use Rattle.subdivision.specs.Faults.{GivenBy, readingRefusals};
+ghost use Rattle.subdivision.specs.Faults.{GivenBy, LowestOnCircle, readingRefusals};
 ghost use Rattle.subdivision.specs.Earlier.{earlierReadingRefusals, GivenAsBefore};
 ghost use Rattle.subdivision.specs.Placed.{OneThingOnly, ReadingsAgree};
 ghost use Rattle.subdivision.specs.Calls.{reading};
@@ -30,6 +30,7 @@ pub fn read_point(
     ensures refused { λ r. ⌜ ((number item : ℕ) → (r ≡ Answer.Refused number item) ↔ GivenBy (readingRefusals (sheetOf west east (now (vertices .entry)) (now (edges .entry)) zones) (shifted x) (shifted y)) number item) ⌝ }
     ensures one_thing { λ r. ⌜ OneThingOnly (sheetOf west east (now (vertices .entry)) (now (edges .entry)) zones) (shifted x) (shifted y) r ⌝ }
     ensures agreed { λ r. ⌜ ReadingsAgree (sheetOf west east (now (vertices .entry)) (now (edges .entry)) zones) (shifted x) (shifted y) r ⌝ }
+    ensures circle { λ r. ⌜ ((item : ℕ) → r ≡ Answer.Refused 13 item → LowestOnCircle (sheetOf west east (now (vertices .entry)) (now (edges .entry)) zones) item) ⌝ }
     ensures as_before { λ r. ⌜ GivenAsBefore (earlierReadingRefusals (sheetOf west east (now (vertices .entry)) (now (edges .entry)) zones) (shifted x) (shifted y)) (λ number item. r ≡ Answer.Refused number item) ⌝ }
 {
     let mut line = [0u32; MAX_ZONES];

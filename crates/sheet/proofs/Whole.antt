@@ -6,10 +6,11 @@ use Prim.Native.Nat.{ℕ}
 use Rattle.subdivision.specs.declared.Verdict.{Verdict}
 use Rattle.subdivision.specs.Sheet.{Sheet}
 use Rattle.subdivision.specs.Refusals.{judged, limitRefusals}
-use Rattle.subdivision.specs.Faults.{GivenBy, tableRefusals}
+use Rattle.subdivision.specs.Faults.{GivenBy, LowestOnCircle, tableRefusals}
 use Rattle.subdivision.specs.Accepted.{Accepted}
 use Rattle.subdivision.specs.Earlier.{earlierTableRefusals, GivenAsBefore}
 use Rattle.theory.proofs.Judgement.{refused-first, passed-first, accepted-decides}
+use Rattle.theory.proofs.CircleZones.{table-circle}
 use Rattle.theory.proofs.Earlier.{table-as-before, given-as-before}
 use Rattle.theory.proofs.Faults.{table-refused-exactly}
 use Rattle.sheet.specs.Judgement.{recordRefusals, drawingRefusals, zoneRefusals}
@@ -42,10 +43,11 @@ module _ (s : Sheet) where
   Says v =
       ((v ≡ Verdict.Passed) ↔ Accepted s)
       × (((number item : ℕ) → (v ≡ Verdict.Refused number item) ↔ GivenBy (tableRefusals s) number item)
-      × GivenAsBefore (earlierTableRefusals s) (λ number item. v ≡ Verdict.Refused number item))
+      × (((item : ℕ) → v ≡ Verdict.Refused 13 item → LowestOnCircle s item)
+      × GivenAsBefore (earlierTableRefusals s) (λ number item. v ≡ Verdict.Refused number item)))
 
   -- a verdict on the tables, as the rules' statements
   pub verdict-says : (v : Verdict) → v ≡ judged (tableRefusals s) → Says v
   verdict-says v e =
       subst Says (sym e)
-      (accepted-decides s, (table-refused-exactly s, given-as-before (tableRefusals s) (earlierTableRefusals s) (λ number item. judged (tableRefusals s) ≡ Verdict.Refused number item) (table-refused-exactly s) (table-as-before s)))
+      (accepted-decides s, (table-refused-exactly s, (λ item g. table-circle s item (table-refused-exactly s 13 item .0 g), given-as-before (tableRefusals s) (earlierTableRefusals s) (λ number item. judged (tableRefusals s) ≡ Verdict.Refused number item) (table-refused-exactly s) (table-as-before s))))

@@ -12,7 +12,7 @@ ghost use Prim.Native.Nat.{ℕ};
 ghost use Rattle.subdivision.specs.declared.Verdict.{Verdict};
 ghost use Rattle.subdivision.specs.Sheet.{sheetOf};
 ghost use Rattle.subdivision.specs.Refusals.{judged, limitRefusals};
-ghost use Rattle.subdivision.specs.Faults.{GivenBy, tableRefusals};
+ghost use Rattle.subdivision.specs.Faults.{GivenBy, LowestOnCircle, tableRefusals};
 ghost use Rattle.subdivision.specs.Accepted.{Accepted};
 ghost use Rattle.subdivision.specs.Earlier.{earlierTableRefusals, GivenAsBefore};
 ghost use Rattle.sheet.specs.Judgement.{lineLeft};
@@ -47,6 +47,7 @@ pub fn rules(
     ensures written { λ r. ⌜ now (line .exit) ≡ lineLeft (sheetOf west east (now (vertices .entry)) (now (edges .entry)) zones) r (now (line .entry)) ⌝ }
     ensures accepted { λ r. ⌜ (r ≡ Verdict.Passed) ↔ Accepted (sheetOf west east (now (vertices .entry)) (now (edges .entry)) zones) ⌝ }
     ensures refused { λ r. ⌜ ((number item : ℕ) → (r ≡ Verdict.Refused number item) ↔ GivenBy (tableRefusals (sheetOf west east (now (vertices .entry)) (now (edges .entry)) zones)) number item) ⌝ }
+    ensures circle { λ r. ⌜ ((item : ℕ) → r ≡ Verdict.Refused 13 item → LowestOnCircle (sheetOf west east (now (vertices .entry)) (now (edges .entry)) zones) item) ⌝ }
     ensures as_before { λ r. ⌜ GivenAsBefore (earlierTableRefusals (sheetOf west east (now (vertices .entry)) (now (edges .entry)) zones)) (λ number item. r ≡ Verdict.Refused number item) ⌝ }
 {
     match limits(west, east, vertices, edges, zones) {

@@ -4,7 +4,8 @@ use mathlib.Core.List.{List, [], _∷_, _++_}
 use mathlib.Core.Logic.{_⊎_}
 use Prim.Native.Nat.{ℕ, _<_}
 use Rattle.subdivision.specs.Formula.{Formula, Means}
-use Rattle.subdivision.specs.Sheet.{Sheet}
+use Rattle.subdivision.specs.Sheet.{Sheet, zoneCount}
+use Rattle.subdivision.specs.ZoneLine.{OnCircle}
 use Rattle.subdivision.specs.Refusals.{Refusal, unnamed, limitRefusals, roomRefusal, ruleRefusals, trailRoom}
 use Rattle.subdivision.specs.Reading.{onSheet}
 
@@ -26,6 +27,12 @@ FaultOf r number item = (number ≡ r .number) × ((Means (r .kept) → ⊥) × 
 abbrev pub GivenBy : List Refusal → ℕ → ℕ → Type 0
 GivenBy [] number item = ⊥
 GivenBy (r ∷ rs) number item = FaultOf r number item ⊎ (Means (r .kept) × GivenBy rs number item)
+
+-- the zone that refusal 13 names, in document 02's words (P4): it is itself on a circle, and no lower one is
+pub record LowestOnCircle (s : Sheet) (z : ℕ) : Type 0 where
+  pub there : z < zoneCount s
+  pub circling : OnCircle s z
+  pub lower : (y : ℕ) → y < z → OnCircle s y → ⊥
 
 -- no line's fault is there
 abbrev pub AllKept : List Refusal → Type 0

@@ -26,9 +26,8 @@ beneathTwo =
 -- the cases, whatever words w were lent
 pub worked-circles :
     (w : ℕ → ℕ) →
-    -- the circle case of document 01 still names zone 1, and its zones 1 and 2 are those on the circle
-    (opening (twoLenses 1 2) (tab w 23) ≡ record { verdict = Refused 13 1; index = tab w 23 })
-    × (tab (λ z. holds (onCircle (twoLenses 1 2) z)) 4 ≡ false ∷ true ∷ true ∷ false ∷ [])
+    -- of the circle case of document 01, which still names zone 1 (`worked-refusals`), zones 1 and 2 are on the circle
+    (tab (λ z. holds (onCircle (twoLenses 1 2) z)) 4 ≡ false ∷ true ∷ true ∷ false ∷ [])
     -- the circle between 5 and 6 beneath zone 2 names 5
     × (opening beneathTwo (tab w 35) ≡ record { verdict = Refused 13 5; index = tab w 35 })
     -- its zones on the circle are 5 and 6, of which 6 is the highest
@@ -38,4 +37,4 @@ pub worked-circles :
     × (judged (earlierTableRefusals beneathTwo) ≡ Refused 13 2)
     × (names (earlierCircleRefusal (twoLenses 1 2)) ≡ 1)
 unfolding twoLenses beneathTwo opening nextZone zoneLine inOrder bits topBit lowBit lca lowest tab
-worked-circles w = (refl, refl, refl, refl, refl, refl, refl)
+worked-circles w = (refl, refl, refl, refl, refl, refl)

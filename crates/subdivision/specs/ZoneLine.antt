@@ -5,7 +5,7 @@ use mathlib.Core.List.{List, [], _∷_, _++_}
 use Prim.Native.Nat.{ℕ, zero, suc, _<_}
 use lib.Dec.{ltb, eqb}
 use lib.ListN.{length}
-use Rattle.subdivision.specs.Formula.{Formula, isLess, isEqual, both, either, implies, notSo, everyBelow, someBelow, holds}
+use Rattle.subdivision.specs.Formula.{Formula, isLess, isEqual, both, either, implies, notSo, everyBelow, someBelow, holds, Means}
 use Rattle.subdivision.specs.Lowest.{lowest}
 use Rattle.subdivision.specs.Sheet.{Sheet, edgeCount, zoneCount, aboveOf, belowOf}
 
@@ -62,7 +62,11 @@ module _ (s : Sheet) where
   leads (suc steps) a b =
       either (isEqual a b) (someBelow (edgeCount s) (λ e. both (isEqual (belowOf s e) a) (leads steps (aboveOf s e) b)))
 
-  -- zone c is on a circle: a step up from it leads back to it
+  -- zone c is on a circle: steps from below to above lead from it back to it, one and any number more (document 02, P4)
+  abbrev pub OnCircle : ℕ → Type 0
+  OnCircle c = (e : ℕ) × (e < edgeCount s) × ((belowOf s e ≡ c) × ((k : ℕ) × Means (leads k (aboveOf s e) c)))
+
+  -- the same, computed: one step and at most n more
   abbrev pub onCircle : ℕ → Formula
   onCircle c = someBelow (edgeCount s) (λ e. both (isEqual (belowOf s e) c) (leads (zoneCount s) (aboveOf s e) c))
 

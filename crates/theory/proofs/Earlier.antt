@@ -12,6 +12,7 @@ use Rattle.subdivision.specs.Refusals.{Refusal, names, unnamed, limitRefusals, 
 use Rattle.subdivision.specs.Faults.{Named, GivenBy, AllKept, openingRefusals, tableRefusals, readingRefusals}
 use Rattle.subdivision.specs.Reading.{onSheet}
 use Rattle.subdivision.specs.Earlier.{earlierCircleRefusal, earlierTableRefusals, earlierOpeningRefusals, earlierReadingRefusals, GivenAsBefore}
+use Rattle.theory.proofs.CircleZones.{tableLines}
 use Rattle.theory.proofs.Faults.{circle-lowest, earlier-lowest}
 
 -- one line in the place of another that is given when it is, with the same number, between the lines before and after it
@@ -54,21 +55,17 @@ module _ (s : Sheet) where
             λ number item d. (other-given 13 (zoneCount s) (rule7 s) (circleRefusal s .clause) (earlierCircleRefusal s .clause) after before number item d, other-given 13 (zoneCount s) (rule7 s) (earlierCircleRefusal s .clause) (circleRefusal s .clause) after before number item d);
       }
 
-  -- the lines about the tables, before 13
-  abbrev tableLines : List Refusal
-  tableLines = limitRefusals s ++ take 9 (ruleRefusals s)
-
-  table-names : Names13 (circleRefusal s) tableLines
+  table-names : Names13 (circleRefusal s) (tableLines s)
   table-names (k1, (k2, (k4, (k5, (k6, rest))))) f = (names (circleRefusal s), inr (circle-lowest s (λ e h. k6 e h .1) f))
 
-  table-named : Names13 (earlierCircleRefusal s) tableLines
+  table-named : Names13 (earlierCircleRefusal s) (tableLines s)
   table-named (k1, (k2, (k4, (k5, (k6, rest))))) f = (names (earlierCircleRefusal s), inr (earlier-lowest s (λ e h. k6 e h .1) f))
 
   pub table-as-before : GivenAsBefore (earlierTableRefusals s) (GivenBy (tableRefusals s))
-  table-as-before = as-before tableLines [] table-names table-named
+  table-as-before = as-before (tableLines s) [] table-names table-named
 
   pub reading-as-before : (x y : ℕ) → GivenAsBefore (earlierReadingRefusals s x y) (GivenBy (readingRefusals s x y))
-  reading-as-before x y = as-before tableLines (unnamed 20 (onSheet s x y) ∷ []) table-names table-named
+  reading-as-before x y = as-before (tableLines s) (unnamed 20 (onSheet s x y) ∷ []) table-names table-named
 
   pub opening-as-before : (words : ℕ) → GivenAsBefore (earlierOpeningRefusals s words) (GivenBy (openingRefusals s words))
   opening-as-before words =

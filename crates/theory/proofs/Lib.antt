@@ -4,6 +4,7 @@ pub mod Blocks
 pub mod ChainCovers
 pub mod Chains
 pub mod Choices
+pub mod CircleZones
 pub mod Circles
 pub mod ColumnFans
 pub mod ColumnNames

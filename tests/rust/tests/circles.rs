@@ -27,9 +27,6 @@ fn the_lowest_zone_on_a_circle_is_named() {
     let (mut none, mut moved, mut same, mut several, mut long, mut between) = (0, 0, 0, 0, 0, 0);
     for call in 0..calls(4_000) {
         let s = if call % 4 == 0 { faults::misnamed(&mut r, 2) } else { sheets::circling(&mut r) };
-        if s.edges.chunks_exact(4).any(|e| e[2] == e[3]) || paper::judge(&s).is_some_and(|(number, _)| number < 13) {
-            continue;
-        }
         let steps = Steps::of(&s.edges, s.zones);
         compare(&s, sheets::point(&mut r, &s), &steps);
         let circles = steps.on_circles();

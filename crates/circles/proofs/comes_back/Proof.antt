@@ -26,7 +26,7 @@ spread-requires : tie.Need-spread-requires Inv-loop μ-loop
 spread-requires c κs =
     let start = c .before .before .before .before .before .before .before in
     let a = start .args in
-    (((omega arith, start .pre .0 .0 .1), start .pre .0 .1), (start .pre .1 .1 .0, (start .pre .1 .1 .1, looking-first (a .marks .now) (a .queue .now) (start .pre .1 .0 .0) (start .pre .1 .0 .1))))
+    (((omega arith, start .pre .0 .0 .1), start .pre .0 .1), ((start .pre .1 .1 .0, start .pre .1 .1 .1), looking-first (a .marks .now) (a .queue .now) (start .pre .1 .0 .0) (start .pre .1 .0 .1)))
 
 loop-holds : tie.Need-loop-holds Inv-loop μ-loop
 loop-holds c =
@@ -58,7 +58,7 @@ spread-requires-2 c κs =
     let start = c .before .before .before .before .before .before .before .before .before .before .before .before .before .before .before .before .before in
     let there : getD (l .queue) (l .head) 0 < length (l .marks) = l .inv .0 .zones (l .head) (omega arith) in
     let long : length (l .marks) ≡ length (start .args .marks .now) = omega arith in
-    ((((omega (arith, there), omega arith), rw long (start .pre .0 .1))), (start .pre .1 .1 .0, (rw long (start .pre .1 .1 .1), l .inv .0)))
+    ((((omega (arith, there), omega arith), rw long (start .pre .0 .1))), ((start .pre .1 .1 .0, rw long (start .pre .1 .1 .1)), l .inv .0))
 
 add-head : tie.Need-add-head Inv-loop μ-loop
 add-head c = search needs

@@ -17,8 +17,8 @@ use Rattle.circles.proofs.steps.spread.Tie as tie
 run-of : (c : tie.Start) → take (getD (c .args .begin .now) (c .args .zone + 1) 0 - getD (c .args .begin .now) (c .args .zone) 0) (drop (getD (c .args .begin .now) (c .args .zone) 0) (c .args .order .now)) ≡ runOf (zonesOf (c .args .edges .now) (length (c .args .marks .now))) (c .args .zone)
 run-of c =
     let a = c .args in
-    run-is (belowKey (a .edges .now)) (a .order .now) (a .begin .now) (length (a .marks .now)) (a .zone) (c .pre .1 .1 .0) (c .pre .0 .0 .0)
-    ∙ ap (λ (l : List ℕ). group (belowKey (a .edges .now)) l (a .zone)) (c .pre .1 .0)
+    run-is (belowKey (a .edges .now)) (a .order .now) (a .begin .now) (length (a .marks .now)) (a .zone) (c .pre .1 .0 .1) (c .pre .0 .0 .0)
+    ∙ ap (λ (l : List ℕ). group (belowKey (a .edges .now)) l (a .zone)) (c .pre .1 .0 .0)
 
 mul-from : tie.Need-mul-from
 mul-from c = search needs
@@ -27,14 +27,14 @@ shared-slice-read-from : tie.Need-shared-slice-read-from
 shared-slice-read-from c =
     let start = c .before .before .before .before .before .before in
     let a = start .args in
-    let run = run-bounds (belowKey (a .edges .now)) (a .order .now) (a .begin .now) (length (a .marks .now)) (a .zone) (start .pre .1 .1 .0) (start .pre .0 .0 .0) in
+    let run = run-bounds (belowKey (a .edges .now)) (a .order .now) (a .begin .now) (length (a .marks .now)) (a .zone) (start .pre .1 .0 .1) (start .pre .0 .0 .0) in
     omega arith
 
 cast-from : tie.Need-cast-from
 cast-from c =
     let start = c .before .before .before .before .before .before in
     let a = start .args in
-    let run = run-bounds (belowKey (a .edges .now)) (a .order .now) (a .begin .now) (length (a .marks .now)) (a .zone) (start .pre .1 .1 .0) (start .pre .0 .0 .0) in
+    let run = run-bounds (belowKey (a .edges .now)) (a .order .now) (a .begin .now) (length (a .marks .now)) (a .zone) (start .pre .1 .0 .1) (start .pre .0 .0 .0) in
     omega (arith, c .shared-slice-known4 .given (a .zone))
 
 add-to : tie.Need-add-to
@@ -47,42 +47,42 @@ shared-slice-read-to : tie.Need-shared-slice-read-to
 shared-slice-read-to c =
     let start = c .before .before .before .before .before .before .before in
     let a = start .args in
-    let run = run-bounds (belowKey (a .edges .now)) (a .order .now) (a .begin .now) (length (a .marks .now)) (a .zone) (start .pre .1 .1 .0) (start .pre .0 .0 .0) in
+    let run = run-bounds (belowKey (a .edges .now)) (a .order .now) (a .begin .now) (length (a .marks .now)) (a .zone) (start .pre .1 .0 .1) (start .pre .0 .0 .0) in
     omega arith
 
 cast-to : tie.Need-cast-to
 cast-to c =
     let start = c .before .before .before .before .before .before .before in
     let a = start .args in
-    let run = run-bounds (belowKey (a .edges .now)) (a .order .now) (a .begin .now) (length (a .marks .now)) (a .zone) (start .pre .1 .1 .0) (start .pre .0 .0 .0) in
+    let run = run-bounds (belowKey (a .edges .now)) (a .order .now) (a .begin .now) (length (a .marks .now)) (a .zone) (start .pre .1 .0 .1) (start .pre .0 .0 .0) in
     omega (arith, c .shared-slice-known5 .given (a .zone + 1))
 
 mul-take-run : tie.Need-mul-take-run
 mul-take-run c =
     let start = c .before .before .before .before .before .before .before in
     let a = start .args in
-    let run = run-bounds (belowKey (a .edges .now)) (a .order .now) (a .begin .now) (length (a .marks .now)) (a .zone) (start .pre .1 .1 .0) (start .pre .0 .0 .0) in
+    let run = run-bounds (belowKey (a .edges .now)) (a .order .now) (a .begin .now) (length (a .marks .now)) (a .zone) (start .pre .1 .0 .1) (start .pre .0 .0 .0) in
     omega arith
 
 sub-take-run : tie.Need-sub-take-run
 sub-take-run c =
     let start = c .before .before .before .before .before .before .before in
     let a = start .args in
-    let run = run-bounds (belowKey (a .edges .now)) (a .order .now) (a .begin .now) (length (a .marks .now)) (a .zone) (start .pre .1 .1 .0) (start .pre .0 .0 .0) in
+    let run = run-bounds (belowKey (a .edges .now)) (a .order .now) (a .begin .now) (length (a .marks .now)) (a .zone) (start .pre .1 .0 .1) (start .pre .0 .0 .0) in
     omega arith
 
 part-take-run-start : tie.Need-part-take-run-start
 part-take-run-start c =
     let start = c .before .before .before .before .before .before .before in
     let a = start .args in
-    let run = run-bounds (belowKey (a .edges .now)) (a .order .now) (a .begin .now) (length (a .marks .now)) (a .zone) (start .pre .1 .1 .0) (start .pre .0 .0 .0) in
+    let run = run-bounds (belowKey (a .edges .now)) (a .order .now) (a .begin .now) (length (a .marks .now)) (a .zone) (start .pre .1 .0 .1) (start .pre .0 .0 .0) in
     omega arith
 
 part-take-run-end : tie.Need-part-take-run-end
 part-take-run-end c =
     let start = c .before .before .before .before .before .before .before in
     let a = start .args in
-    let run = run-bounds (belowKey (a .edges .now)) (a .order .now) (a .begin .now) (length (a .marks .now)) (a .zone) (start .pre .1 .1 .0) (start .pre .0 .0 .0) in
+    let run = run-bounds (belowKey (a .edges .now)) (a .order .now) (a .begin .now) (length (a .marks .now)) (a .zone) (start .pre .1 .0 .1) (start .pre .0 .0 .0) in
     omega arith
 
 take-run-requires : tie.Need-take-run-requires
@@ -92,7 +92,7 @@ take-run-requires c κs =
     let s = zonesOf (a .edges .now) (length (a .marks .now)) in
     let named : (l : List ℕ) → l ≡ runOf s (a .zone) → (j : ℕ) → j < length l → edgeAbove (a .edges .now) (getD l j 0) < length (a .marks .now) =
     λ l e j h. start .pre .0 .1 (getD l j 0) (subst (λ (r : List ℕ). (j : ℕ) → j < length r → getD r j 0 < length (a .edges .now) / 4) (sym e) (λ j h. run-over s (a .zone) .own j h .0) j h) in
-    (named _ (run-of start), (start .pre .0 .0 .1, start .pre .1 .1 .1))
+    (named _ (run-of start), (start .pre .0 .0 .1, start .pre .1 .1))
 
 same-length : tie.Need-same-length
 same-length c = search needs
