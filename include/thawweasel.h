@@ -17,7 +17,7 @@
  *   - what a call may write (`index` of tw_open, `trail`, the tables of tw_read_page, `text`, the last four tables of tw_month,
  *     `out`) overlaps nothing else that it is handed, and no other thread reads or writes it, or writes anything that is handed,
  *     during the call;
- *   - the stack has room: 128 KiB is enough for tw_open, tw_read and tw_search, 256 KiB for the others.
+ *   - the stack has room: 512 KiB is enough for tw_open and tw_read, 640 KiB for tw_place_page, 64 KiB for the others.
  * A pointer with length 0 is never read or written, and may be null.
  */
 #ifndef THAWWEASEL_H
@@ -60,7 +60,7 @@ void tw_read(int32_t west, int32_t east,
 /* Searches for the point (x, y) by the words of an index, quickly: refusals 1, 2, 3, 20, 21 and 22, in that order. The sheet is
  * not judged again: with the tables that tw_open was handed and the words that it wrote, the answer is tw_read's.
  * out: kind, number and item as tw_read has them, then the number of edges examined and of probes, both 0 on a refusal. The edges
- * examined are written, in order, to the front of trail; every other word of it is as it was. A trail of 10 words has room on
+ * examined are written, in order, to the front of trail; every other word of it is as it was. A trail of 12 words has room on
  * every sheet; it needs as many as n - 1 has binary digits. */
 void tw_search(int32_t west, int32_t east,
                const int32_t *vertices, size_t vertices_len,

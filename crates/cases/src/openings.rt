@@ -4,13 +4,14 @@ use crate::VERTICES;
 use crate::number;
 use crate::text;
 use subdivision::MAX_EDGES;
+use subdivision::MAX_VERTICES;
 use subdivision::Verdict;
 
-// The lens sheet with the x of vertex 3 at 1,000,000.
-const FAR: [i32; 8] = [0, 0, 2, 2, 2, -2, 1000000, 0];
+// The lens sheet with the x of vertex 3 at 1,000,000,000.
+const FAR: [i32; 8] = [0, 0, 2, 2, 2, -2, 1000000000, 0];
 
-// The lens sheet with the x of vertex 3 at 1,000,001.
-const TOO_FAR: [i32; 8] = [0, 0, 2, 2, 2, -2, 1000001, 0];
+// The lens sheet with the x of vertex 3 at 1,000,000,001.
+const TOO_FAR: [i32; 8] = [0, 0, 2, 2, 2, -2, 1000000001, 0];
 
 // The vertices of two lenses side by side.
 const TWINS: [i32; 14] = [0, 0, 2, 0, 4, 0, 1, 1, 1, -1, 3, 1, 3, -1];
@@ -256,13 +257,21 @@ fn lenses() {
     );
     let far = FAR;
     let mut room = [LENT; 14];
-    opened(b"x = 1,000,000:", 0, 1000000, &far, &edges, 3, &mut room);
+    opened(
+        b"x = 1,000,000,000:",
+        0,
+        1000000000,
+        &far,
+        &edges,
+        3,
+        &mut room,
+    );
     let beyond = TOO_FAR;
     let mut other = [LENT; 14];
     opened(
-        b"x = 1,000,001:",
+        b"x = 1,000,000,001:",
         0,
-        1000000,
+        1000000000,
         &beyond,
         &edges,
         3,
@@ -270,9 +279,9 @@ fn lenses() {
     );
     let mut less = [LENT; 13];
     opened(
-        b"x = 1,000,001, 13 words:",
+        b"x = 1,000,000,001, 13 words:",
         0,
-        1000000,
+        1000000000,
         &beyond,
         &edges,
         3,
@@ -345,7 +354,18 @@ fn limits() {
     let vertices = VERTICES;
     let edges = [0u32; 4 * MAX_EDGES + 4];
     let mut first = [LENT; 8];
-    opened(b"2,049 edges:", 0, 4, &vertices, &edges, 3, &mut first);
+    opened(b"8,193 edges:", 0, 4, &vertices, &edges, 3, &mut first);
+    let mut standing = [LENT; 8];
+    let most = 4 * MAX_EDGES;
+    opened(
+        b"8,192 edges, 8 words:",
+        0,
+        4,
+        &vertices,
+        &edges[..most],
+        3,
+        &mut standing,
+    );
     let mut second = [LENT; 8];
     opened(
         b"five words of edges:",
@@ -358,10 +378,57 @@ fn limits() {
     );
 }
 
+fn counts() {
+    let vertices = [0i32; 2 * MAX_VERTICES + 2];
+    let edges = [0u32; 4];
+    let mut first = [LENT; 8];
+    opened(
+        b"4,097 zones:",
+        0,
+        4,
+        &vertices[..0],
+        &edges[..0],
+        4097,
+        &mut first,
+    );
+    let mut second = [LENT; 8];
+    opened(
+        b"4,096 zones, 8 words:",
+        0,
+        4,
+        &vertices[..0],
+        &edges[..0],
+        4096,
+        &mut second,
+    );
+    let mut third = [LENT; 8];
+    opened(
+        b"4,097 vertices:",
+        0,
+        4,
+        &vertices,
+        &edges[..0],
+        1,
+        &mut third,
+    );
+    let most = 2 * MAX_VERTICES;
+    let mut fourth = [LENT; 3];
+    opened(
+        b"4,096 vertices, 3 words:",
+        0,
+        4,
+        &vertices[..most],
+        &edges[..0],
+        1,
+        &mut fourth,
+    );
+}
+
 // The worked sheets of document 01, and a wedge for rule 5's western clause.
 pub(crate) fn openings() {
     lenses();
     twins();
     blanks();
     limits();
+    counts();
 }

@@ -8,6 +8,8 @@ use crate::openings::words;
 use crate::readings::answer;
 use crate::text;
 use subdivision::Found;
+use subdivision::MAX_EXAMINED;
+use subdivision::MAX_ZONES;
 
 // The counted entries of a trail.
 fn entries(trail: &[u32], count: u32) {
@@ -57,8 +59,25 @@ fn points(index: &[u32]) {
     lens_point(b"the lens searched at (5,0):", index, 5, 0);
 }
 
+// The quick search of a point of a sheet with 4,096 zones and nothing drawn, over lent words and a lent trail.
+fn blank_point(name: &[u8], index: &[u32], trail: &mut [u32]) {
+    let vertices = VERTICES;
+    let edges = EDGES;
+    text(name);
+    let found = search::search_point(0, 4, &vertices[..0], &edges[..0], 4096, index, 2, 0, trail);
+    result(found, trail);
+}
+
+fn trails() {
+    let index = [LENT; 3 * MAX_ZONES + 1];
+    let mut short = [LENT; MAX_EXAMINED - 1];
+    blank_point(b"4,096 zones, a trail of 11:", &index, &mut short);
+    let mut room = [LENT; MAX_EXAMINED];
+    blank_point(b"4,096 zones, a trail of 12:", &index, &mut room);
+}
+
 // The worked points of document 01 by the quick search, over the index that opening writes; then a
-// short trail, a short index, and an index whose place of zone 0 is no place.
+// short trail, a short index, and an index whose place of zone 0 is no place; then trails for the largest number of zones.
 pub(crate) fn searches() {
     let vertices = VERTICES;
     let edges = EDGES;
@@ -79,4 +98,5 @@ pub(crate) fn searches() {
     lens_point(b"13 index words:", &few, 2, 0);
     index[0] = 7;
     lens_point(b"the place of zone 0 set to 7:", &index, 2, 0);
+    trails();
 }

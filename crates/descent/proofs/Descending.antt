@@ -76,8 +76,8 @@ module _ (s : Sheet) (index : List ℕ) (x y : ℕ) where
         long : length (listed d array) ≤ maxExamined
         long = le-trans (r .rest .sound .counted) (few-edges (zoneCount s) n)
 
-        wide : bits (edgeCount s) ≤ 12
-        wide = bits-le 12 (edgeCount s) (omega arith)
+        wide : bits (edgeCount s) ≤ 32
+        wide = bits-le 32 (edgeCount s) (omega arith)
 
     -- a turn that goes onward reaches the next state
     goes-on : (next : Descent) (more : List ℕ) → bits (zoneCount s - 1) ≤ length more → length (listed next more) ≡ next .examined

@@ -20,9 +20,35 @@ pub fn fan_order(edges: &[u32], eastern: bool, order: &mut [u32], starts: &mut [
 {
     let mut keys = [0u64; MAX_EDGES];
     let mut scratch = [0u32; MAX_EDGES];
-    fan_keys(edges, eastern, &mut keys);
-    sorting::order::sort(&keys, order, &mut scratch);
-    sorting::groups::starts(&keys, order, starts);
+    let m = order.len();
+    sort_by_fan(
+        edges,
+        eastern,
+        &mut keys[..m],
+        &mut scratch[..m],
+        order,
+        starts,
+    );
+}
+
+// Sorts the edges as `fan_order` does, with storage lent: a key and a place of `scratch` for each.
+fn sort_by_fan(
+    edges: &[u32],
+    eastern: bool,
+    keys: &mut [u64],
+    scratch: &mut [u32],
+    order: &mut [u32],
+    starts: &mut [u32],
+)
+    requires { ⌜ (length (now order) ≤ maxEdges) × (length (now starts) ≤ maxVertices + 1) ⌝ }
+    requires { ⌜ (length (now keys) ≡ length (now order)) × (length (now scratch) ≡ length (now order)) ⌝ }
+    ensures sorted { λ _. ⌜ now (order .exit) ≡ inOrder (fanKey (now (edges .entry)) eastern) (length (now (order .entry))) ⌝ }
+    ensures once { λ _. ⌜ SortedBelow (fanKey (now (edges .entry)) eastern) (length (now (order .entry))) (now (order .exit)) ⌝ }
+    ensures begun { λ _. ⌜ now (starts .exit) ≡ tab (groupStart (fanKey (now (edges .entry)) eastern) (inOrder (fanKey (now (edges .entry)) eastern) (length (now (order .entry))))) (length (now (starts .entry))) ⌝ }
+{
+    fan_keys(edges, eastern, keys);
+    sorting::order::sort(keys, order, scratch);
+    sorting::groups::starts(keys, order, starts);
 }
 
 // Writes to each place of `keys` the key that puts the edge of that number into its fan on one side.

@@ -1,4 +1,4 @@
--- What the program prints for a page: document 02, P1, "prints a line for each point".
+-- What the program prints for a page: document 02, P1, "prints a line for each point", and P5, "programs with fixed buffers".
 use mathlib.Core.Bool.{true, false}
 use mathlib.Core.List.{List, [], _∷_, _++_}
 use Prim.Native.Nat.{ℕ, zero, suc, _+_, _*_, _/_, _^_}
@@ -8,16 +8,18 @@ use lib.ListN.{length, getD}
 use Rattle.io.specs.Digits.{digits}
 use Rattle.subdivision.specs.declared.Answer.{Answer}
 use Rattle.subdivision.specs.declared.Verdict.the-variants.{Passed, Refused}
+use Rattle.subdivision.specs.Limits.{programLimits}
+use Rattle.subdivision.specs.Formula.{Formula, both, notSo, holds}
 use Rattle.subdivision.specs.Lowest.{lowest}
 use Rattle.subdivision.specs.Lists.{put}
 use Rattle.subdivision.specs.Sheet.{Sheet}
-use Rattle.subdivision.specs.Refusals.{judged}
+use Rattle.subdivision.specs.Refusals.{judged, countsWithinUnder}
 use Rattle.subdivision.specs.Faults.{tableRefusals}
 use Rattle.subdivision.specs.Calls.{reading}
 use Rattle.frames.specs.declared.Judged.{Judged}
 use Rattle.frames.specs.declared.Written.{Written}
 use Rattle.frames.specs.Lines.{newline}
-use Rattle.frames.specs.Pages.{judgedPage, pageSheet, pointWords}
+use Rattle.frames.specs.Pages.{headVertices, headEdges, headZones, isWhole, isWellMade, isInOrder, judgedPage, pageSheet, pointWords}
 use Rattle.frames.specs.Texts.{PageWritten}
 
 -- the longest page that the program reads
@@ -75,15 +77,25 @@ module _ (s : Sheet) (points : List ℤ) where
       elim (judged (tableRefusals s)) [ Refused number item ↦ refusedText number item | Passed ↦ answersText (length points / 2) ]
 
 module _ (page : List ℕ) where
-  -- the whole page, then its sheet with its points; a page that is too long or refused is one refusal line alone
+  -- the program's last check of line 0 (P5): the line is there whole, well made and in order, and its counts are more than fixed buffers hold
+  abbrev pub headBeyond : Formula
+  headBeyond =
+      both (isWhole page 0) (both (isWellMade page 0) (both (isInOrder page 0)
+      (notSo (countsWithinUnder programLimits (headVertices page) (headEdges page) (headZones page)))))
+
+  -- the whole page, then its sheet with its points; a page that is too long, too much for the program, or refused is one refusal line alone
   unfoldable pub placedText : List ℕ
   placedText =
       elim (ltb maxPage (length page)) [
         | true ↦ refusedText 34 0
         | false ↦
-            elim (judgedPage page) [
-              | Judged.Refused number line ↦ refusedText number line
-              | Judged.Good count ↦ sheetText (pageSheet page) (pointWords page count)
+            elim (holds headBeyond) [
+              | true ↦ refusedText 1 0
+              | false ↦
+                  elim (judgedPage page) [
+                    | Judged.Refused number line ↦ refusedText number line
+                    | Judged.Good count ↦ sheetText (pageSheet page) (pointWords page count)
+                  ]
             ]
       ]
 

@@ -1,10 +1,12 @@
 -- Worked cases of document 02, P1, computed from the definitions: the lens sheet with its seven points as a page, and pages that are refused.
 use mathlib.Core.Path.{_≡_, refl}
+use mathlib.Core.Bool.{false}
 use mathlib.Core.List.{List, [], _∷_, _++_}
 use Prim.Native.Nat.{ℕ}
 use lib.IntN.{ℤ, pos, negsuc}
 use lib.ListN.{take, drop, set}
 use Rattle.subdivision.specs.declared.Answer.{Answer}
+use Rattle.subdivision.specs.Formula.{holds}
 use Rattle.subdivision.specs.Lowest.{lowest}
 use Rattle.subdivision.specs.Lists.{tab}
 use Rattle.subdivision.specs.Sheet.{sheetOf}
@@ -14,7 +16,7 @@ use Rattle.frames.specs.declared.Page.{Page}
 use Rattle.frames.specs.Lines.{lineEnd, newline}
 use Rattle.frames.specs.Pages.{judgedPage, readPage}
 use Rattle.frames.specs.Texts.{frameText, headNumbers, pairNumbers, pageText, sheetHead}
-use Rattle.frames.specs.Placing.{decimal, answerText}
+use Rattle.frames.specs.Placing.{decimal, refusedText, answerText, headBeyond, placedText}
 
 -- the seven points of the lens sheet
 unfoldable pub lensPoints : List ℤ
@@ -132,6 +134,36 @@ judged-cut = refl
 pub judged-last-empty : judgedPage (shortPage ++ (newline ∷ [])) ≡ Refused 30 4
 unfolding shortPage pageText judgedPage lineEnd lowest
 judged-last-empty = refl
+
+-- ---- that page with other counts (P5): the reader's limits, and what the program holds
+
+-- 1,026 zones are within the limits, and more than the program holds
+pub judged-many-zones : judgedPage (set shortPage 39 52) ≡ Good 1
+unfolding shortPage pageText judgedPage lineEnd lowest
+judged-many-zones = refl
+
+pub placed-many-zones : placedText (set shortPage 39 52) ≡ refusedText 1 0
+unfolding shortPage pageText judgedPage placedText lineEnd lowest
+placed-many-zones = refl
+
+-- so it is where a later line is bad, and not where line 0 is
+pub placed-many-zones-bad-vertex : placedText (set (set shortPage 39 52) 45 65) ≡ refusedText 1 0
+unfolding shortPage pageText judgedPage placedText lineEnd lowest
+placed-many-zones-bad-vertex = refl
+
+pub placed-many-zones-bad-head : placedText (set (set shortPage 39 52) 40 70) ≡ refusedText 30 0
+unfolding shortPage pageText judgedPage placedText lineEnd lowest
+placed-many-zones-bad-head = refl
+
+-- the program holds 1,024 zones
+pub held-zones : holds (headBeyond (set (set shortPage 39 52) 41 48)) ≡ false
+unfolding shortPage pageText lineEnd lowest
+held-zones = refl
+
+-- 4,098 zones are beyond the limits
+pub judged-too-many-zones : judgedPage (set shortPage 38 49) ≡ Refused 1 0
+unfolding shortPage pageText judgedPage lineEnd lowest
+judged-too-many-zones = refl
 
 -- lines of answers
 unfoldable pub answerLines : List (List ℕ)

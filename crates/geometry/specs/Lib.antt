@@ -1,2 +1,3 @@
--- What the private functions of `geometry` promise.
+-- What the functions of `geometry` promise beside document 01.
 pub mod Crossing
+pub mod Bounds

@@ -5,6 +5,7 @@ ghost use Prim.Native.Nat.{_*_, _-_, _<_, min};
 ghost use lib.Dec.{ltb};
 ghost use Rattle.subdivision.specs.Formula.{holds};
 ghost use Rattle.subdivision.specs.Lines.{covers, pointPart, edgePart, sideAt, overlapWest, overlapEast, conflict};
+ghost use Rattle.geometry.specs.Bounds.{PartsBounded};
 ghost use Rattle.geometry.specs.Crossing.{orderOn, turned, broken, isUp, lowerBeside};
 
 // An edge covers the abscissa x: half open, and closed at the eastern margin.
@@ -40,16 +41,18 @@ pub struct Scaled {
     pub edge: u64,
 }
 
-// The point's and the edge's part of the side test: the only product of coordinates.
+// The point's and the edge's part of the side test: the only product of coordinates. For no coordinates do they leave 64 bits, and on a
+// sheet they stay below 2^63.
 pub fn parts(g: Segment, x: u32, y: u32) -> Scaled
-    ensures { λ r. ⌜ (r .point ≡ pointPart g y) × (r .edge ≡ edgePart g x) ⌝ }
+    ensures scaled { λ r. ⌜ (r .point ≡ pointPart g y) × (r .edge ≡ edgePart g x) ⌝ }
+    ensures bounded { λ r. ⌜ PartsBounded g x y (r .point) (r .edge) ⌝ }
 {
     let width = less(g.xe, g.xw);
     let right = less(g.xe, x);
     let left = less(x, g.xw);
     Scaled {
-        point: (y as u64) * width,
         edge: (g.yw as u64) * right + (g.ye as u64) * left,
+        point: (y as u64) * width,
     }
 }
 

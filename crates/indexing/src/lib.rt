@@ -123,9 +123,36 @@ fn chains(vertices: &[i32], edges: &[u32], place: &[u32], order: &mut [u32], sta
 {
     let mut keys = [0u64; MAX_EDGES];
     let mut scratch = [0u32; MAX_EDGES];
-    chain_keys(vertices, edges, place, &mut keys);
-    sort(&keys, order, &mut scratch);
-    groups::starts(&keys, order, starts);
+    let m = order.len();
+    sort_by_chain(
+        vertices,
+        edges,
+        place,
+        &mut keys[..m],
+        &mut scratch[..m],
+        order,
+        starts,
+    );
+}
+
+// Sorts the edges as `chains` does, with storage lent: a key and a place of `scratch` for each.
+fn sort_by_chain(
+    vertices: &[i32],
+    edges: &[u32],
+    place: &[u32],
+    keys: &mut [u64],
+    scratch: &mut [u32],
+    order: &mut [u32],
+    starts: &mut [u32],
+)
+    requires { ⌜ (length (now order) ≤ maxEdges) × (length (now starts) ≤ 4294967296) ⌝ }
+    requires { ⌜ (length (now keys) ≡ length (now order)) × (length (now scratch) ≡ length (now order)) ⌝ }
+    ensures sorted { λ _. ⌜ now (order .exit) ≡ inOrder (placedKey (now (vertices .entry)) (now (edges .entry)) (now (place .entry))) (length (now (order .entry))) ⌝ }
+    ensures grouped { λ _. ⌜ now (starts .exit) ≡ tab (groupStart (placedKey (now (vertices .entry)) (now (edges .entry)) (now (place .entry))) (now (order .exit))) (length (now (starts .entry))) ⌝ }
+{
+    chain_keys(vertices, edges, place, keys);
+    sort(keys, order, scratch);
+    groups::starts(keys, order, starts);
 }
 
 // Fills `keys` with the keys of the edges 0, 1, ..

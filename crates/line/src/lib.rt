@@ -75,9 +75,26 @@ pub fn by_zone_below(edges: &[u32], order: &mut [u32], begin: &mut [u32])
 {
     let mut keys = [0u64; MAX_EDGES];
     let mut scratch = [0u32; MAX_EDGES];
-    below_keys(edges, &mut keys);
-    sort(&keys, order, &mut scratch);
-    starts(&keys, order, begin);
+    let n = order.len();
+    sort_by_zone(edges, &mut keys[..n], &mut scratch[..n], order, begin);
+}
+
+// Sorts the edges as `by_zone_below` does, with storage lent: a key and a place of `scratch` for each.
+fn sort_by_zone(
+    edges: &[u32],
+    keys: &mut [u64],
+    scratch: &mut [u32],
+    order: &mut [u32],
+    begin: &mut [u32],
+)
+    requires { ⌜ (length (now order) ≤ maxEdges) × (length (now begin) ≤ 4294967296) ⌝ }
+    requires { ⌜ (length (now keys) ≡ length (now order)) × (length (now scratch) ≡ length (now order)) ⌝ }
+    ensures sorted { λ _. ⌜ now (order .exit) ≡ inOrder (belowKey (now (edges .entry))) (length (now (order .entry))) ⌝ }
+    ensures grouped { λ _. ⌜ now (begin .exit) ≡ tab (groupStart (belowKey (now (edges .entry))) (now (order .exit))) (length (now (begin .entry))) ⌝ }
+{
+    below_keys(edges, keys);
+    sort(keys, order, scratch);
+    starts(keys, order, begin);
 }
 
 // Writes the key of every edge that has a place: its zone below, in the upper half.

@@ -16,13 +16,15 @@ use Rattle.subdivision.specs.Accepted.{Accepted}
 use Rattle.subdivision.specs.Earlier.{earlierOpeningRefusals, GivenAsBefore}
 use Rattle.subdivision.specs.Index.{indexWords}
 use Rattle.subdivision.specs.Engine.{HoldsIndex}
-use Rattle.subdivision.specs.Calls.{opening}
+use Rattle.subdivision.specs.Calls.{openingUnder, opening}
+use Rattle.subdivision.specs.Signed.{OpenedAsSigned}
 use Rattle.theory.proofs.Decide.{held, fails}
 use Rattle.theory.proofs.Judgement.{refused-first, passed-first, none-named}
 use Rattle.theory.proofs.CircleZones.{opening-circle}
 use Rattle.theory.proofs.Earlier.{opening-as-before, given-as-before}
 use Rattle.theory.proofs.Faults.{opened-exactly, refused-exactly}
 use Rattle.theory.proofs.HeldIndex.{words-long, written-holds}
+use Rattle.theory.proofs.WithinLimits.{opened-as-signed}
 
 module _ (s : Sheet) (index : List ℕ) where
   -- the promises of a verdict and the words left, in the order of the contract
@@ -36,7 +38,8 @@ module _ (s : Sheet) (index : List ℕ) where
       × (((number item : ℕ) → v ≡ Verdict.Refused number item → left ≡ index)
       × ((v ≡ Verdict.Passed → HoldsIndex s left)
       × (((item : ℕ) → v ≡ Verdict.Refused 13 item → LowestOnCircle s item)
-      × GivenAsBefore (earlierOpeningRefusals s (length index)) (λ number item. v ≡ Verdict.Refused number item))))))))
+      × (GivenAsBefore (earlierOpeningRefusals s (length index)) (λ number item. v ≡ Verdict.Refused number item)
+      × OpenedAsSigned s index v left))))))))
 
   -- a verdict, as the rules' statements
   says : (v : Verdict) → judged (openingRefusals s (length index)) ≡ v
@@ -46,19 +49,27 @@ module _ (s : Sheet) (index : List ℕ) where
       subst (λ (w : Verdict). ((w ≡ Verdict.Passed) ↔ (Accepted s × (indexNeed (zoneCount s) (edgeCount s) ≤ length index))) × ((number item : ℕ) → (w ≡ Verdict.Refused number item) ↔ GivenBy (openingRefusals s (length index)) number item)) e
       (opened-exactly s (length index), refused-exactly s (length index))
 
-  -- its 13 names the lowest zone on a circle, and its refusals are given as before
-  given : (v : Verdict) → ((number item : ℕ) → (v ≡ Verdict.Refused number item) ↔ GivenBy (openingRefusals s (length index)) number item)
+  -- its 13 names the lowest zone on a circle, its refusals are given as before, and on a sheet signed for earlier it is what it was
+  given : (v : Verdict) (left : List ℕ) → v ≡ opening s index .verdict → left ≡ opening s index .index
+      → ((number item : ℕ) → (v ≡ Verdict.Refused number item) ↔ GivenBy (openingRefusals s (length index)) number item)
       → ((item : ℕ) → v ≡ Verdict.Refused 13 item → LowestOnCircle s item)
-      × GivenAsBefore (earlierOpeningRefusals s (length index)) (λ number item. v ≡ Verdict.Refused number item)
-  given v exactly =
-      (λ item g. opening-circle s (length index) item (exactly 13 item .0 g), given-as-before (openingRefusals s (length index)) (earlierOpeningRefusals s (length index)) (λ number item. v ≡ Verdict.Refused number item) exactly (opening-as-before s (length index)))
+      × (GivenAsBefore (earlierOpeningRefusals s (length index)) (λ number item. v ≡ Verdict.Refused number item)
+      × OpenedAsSigned s index v left)
+  given v left said words exactly =
+      (λ item g. opening-circle s (length index) item (exactly 13 item .0 g), (given-as-before (openingRefusals s (length index)) (earlierOpeningRefusals s (length index)) (λ number item. v ≡ Verdict.Refused number item) exactly (opening-as-before s (length index)), λ a. (said ∙ opened-as-signed s index a .0, words ∙ opened-as-signed s index a .1)))
 
   -- a refusal leaves the words as they were
   pub refusal-promised : (number item : ℕ) → judged (openingRefusals s (length index)) ≡ Verdict.Refused number item → Promised (Verdict.Refused number item) index
   unfolding opening
   refusal-promised number item e =
-      (rw (e, opening), (rw (e, opening), (told .0, (told .1, (λ p. absurd (false≢true cc), (λ n i p. refl, (λ p. absurd (false≢true cc), given (Verdict.Refused number item) (told .1))))))))
+      (said, (words, (told .0, (told .1, (λ p. absurd (false≢true cc), (λ n i p. refl, (λ p. absurd (false≢true cc), given (Verdict.Refused number item) index said words (told .1))))))))
     where
+      said : Verdict.Refused number item ≡ opening s index .verdict
+      said = rw (e, openingUnder)
+
+      words : index ≡ opening s index .index
+      words = rw (e, openingUnder)
+
       told : ((Verdict.Refused number item ≡ Verdict.Passed) ↔ (Accepted s × (indexNeed (zoneCount s) (edgeCount s) ≤ length index)))
           × ((n i : ℕ) → (Verdict.Refused number item ≡ Verdict.Refused n i) ↔ GivenBy (openingRefusals s (length index)) n i)
       told = says (Verdict.Refused number item) e
@@ -67,8 +78,14 @@ module _ (s : Sheet) (index : List ℕ) where
   pub opened-promised : (left : List ℕ) → judged (openingRefusals s (length index)) ≡ Verdict.Passed → left ≡ put (indexWords s) index → Promised Verdict.Passed left
   unfolding opening
   opened-promised left e w =
-      (rw (e, opening), (w ∙ rw (e, opening), (told .0, (told .1, (λ p. (w, words-long s a), (λ n i p. absurd (false≢true cc), (λ p. subst (HoldsIndex s) (sym w) (written-holds s a index), given Verdict.Passed (told .1))))))))
+      (said, (words, (told .0, (told .1, (λ p. (w, words-long s a), (λ n i p. absurd (false≢true cc), (λ p. subst (HoldsIndex s) (sym w) (written-holds s a index), given Verdict.Passed left said words (told .1))))))))
     where
+      said : Verdict.Passed ≡ opening s index .verdict
+      said = rw (e, openingUnder)
+
+      words : left ≡ opening s index .index
+      words = w ∙ rw (e, openingUnder)
+
       told : ((Verdict.Passed ≡ Verdict.Passed) ↔ (Accepted s × (indexNeed (zoneCount s) (edgeCount s) ≤ length index)))
           × ((n i : ℕ) → (Verdict.Passed ≡ Verdict.Refused n i) ↔ GivenBy (openingRefusals s (length index)) n i)
       told = says Verdict.Passed e

@@ -16,6 +16,7 @@ ghost use Rattle.subdivision.specs.Earlier.{earlierOpeningRefusals, GivenAsBefo
 ghost use Rattle.subdivision.specs.Index.{indexWords};
 ghost use Rattle.subdivision.specs.Engine.{HoldsIndex};
 ghost use Rattle.subdivision.specs.Calls.{opening};
+ghost use Rattle.subdivision.specs.Signed.{OpenedAsSigned};
 
 // Opens a sheet: checks 1 to 13 in order, then writes the index to the front of `index`. A refusal writes nothing.
 pub fn open_sheet(
@@ -35,6 +36,7 @@ pub fn open_sheet(
     ensures indexed { λ r. ⌜ (r ≡ Verdict.Passed → HoldsIndex (sheetOf west east (now (vertices .entry)) (now (edges .entry)) zones) (now (index .exit))) ⌝ }
     ensures circle { λ r. ⌜ ((item : ℕ) → r ≡ Verdict.Refused 13 item → LowestOnCircle (sheetOf west east (now (vertices .entry)) (now (edges .entry)) zones) item) ⌝ }
     ensures as_before { λ r. ⌜ GivenAsBefore (earlierOpeningRefusals (sheetOf west east (now (vertices .entry)) (now (edges .entry)) zones) (length (now (index .entry)))) (λ number item. r ≡ Verdict.Refused number item) ⌝ }
+    ensures signed { λ r. ⌜ OpenedAsSigned (sheetOf west east (now (vertices .entry)) (now (edges .entry)) zones) (now (index .entry)) r (now (index .exit)) ⌝ }
 {
     match sheet::limits(west, east, vertices, edges, zones) {
         Verdict::Refused(number, item) => return Verdict::Refused(number, item),

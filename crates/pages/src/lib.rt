@@ -13,6 +13,7 @@ ghost use Rattle.frames.specs.declared.Page.{Page};
 ghost use Rattle.frames.specs.Pages.{readPage, GoodPage, PageRefuses};
 ghost use Rattle.frames.specs.Texts.{OneText};
 
+pub mod heads;
 mod judging;
 mod tables;
 

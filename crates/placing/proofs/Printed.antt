@@ -1,5 +1,6 @@
--- What is printed for a sheet and for a page, case by case; and that an index with room for any asks nothing more than the tables.
+-- What is printed for a sheet and for a page, case by case; and that an index with room asks nothing more than the tables.
 use mathlib.Core.Path.{_≡_, refl, sym, ap, _∙_}
+use mathlib.Core.Bool.{true, false}
 use mathlib.Core.List.{List, _∷_}
 use mathlib.Core.Logic.{⊎-elim}
 use Prim.Native.Nat.{ℕ, _/_, _<_, _≤_}
@@ -10,28 +11,28 @@ use lib.ListN.{length, drop, length-append}
 use lib.Seq.{length-take-le}
 use Rattle.io.specs.Counts.{Counts}
 use Rattle.subdivision.specs.declared.Verdict.{Verdict}
-use Rattle.subdivision.specs.Formula.{isAtMost, Means}
+use Rattle.subdivision.specs.Limits.{programLimits}
+use Rattle.subdivision.specs.Formula.{isAtMost, holds, Means}
 use Rattle.subdivision.specs.Lists.{put}
-use Rattle.subdivision.specs.Sheet.{Sheet}
-use Rattle.subdivision.specs.Refusals.{judged, limitRefusals, roomRefusal, ruleRefusals}
+use Rattle.subdivision.specs.Layout.{indexNeed}
+use Rattle.subdivision.specs.Sheet.{Sheet, edgeCount, zoneCount}
+use Rattle.subdivision.specs.Refusals.{judged, countsWithinUnder, limitRefusals, roomRefusal, ruleRefusals}
 use Rattle.subdivision.specs.Faults.{tableRefusals, openingRefusals}
 use Rattle.frames.specs.declared.Judged.{Judged}
 use Rattle.frames.specs.declared.Written.{Written}
-use Rattle.frames.specs.Pages.{judgedPage, pageSheet, pointWords}
-use Rattle.frames.specs.Placing.{maxPage, maxText, refusedText, answersText, sheetText, placedText, placePage}
-use Rattle.theory.proofs.Decide.{decided, held}
-use Rattle.theory.proofs.Judgement.{passed-keeps, refused-first, passed-first}
+use Rattle.frames.specs.Pages.{headVertices, headEdges, headZones, judgedPage, pageSheet, pointWords, GoodPage}
+use Rattle.frames.specs.Placing.{maxPage, maxText, refusedText, answersText, sheetText, headBeyond, placedText, placePage}
+use Rattle.theory.proofs.Decide.{decided, held, denies}
+use Rattle.theory.proofs.Judgement.{refused-first, passed-first}
 use Rattle.framing.proofs.AnswerTexts.{decimal-short, refused-long}
 
--- with room for any index, opening judges the tables alone
-pub opens-by-tables : (s : Sheet) (words : ℕ) → 5121 ≤ words → judged (openingRefusals s words) ≡ judged (tableRefusals s)
+-- with room for its index, opening judges the tables alone
+pub opens-by-tables : (s : Sheet) (words : ℕ) → indexNeed (zoneCount s) (edgeCount s) ≤ words → judged (openingRefusals s words) ≡ judged (tableRefusals s)
 opens-by-tables s words h = go (judged (limitRefusals s)) refl
   where
     go : (v : Verdict) → judged (limitRefusals s) ≡ v → judged (openingRefusals s words) ≡ judged (tableRefusals s)
     go Verdict.Passed e =
-        let counts = passed-keeps (limitRefusals s) e .0 in
-        let room : Means (roomRefusal s words .kept) = omega (arith, counts .1 .0 .1, counts .1 .1 .1) in
-        passed-first (limitRefusals s) (roomRefusal s words ∷ ruleRefusals s) e ∙ rw (held (roomRefusal s words .kept) room, judged) (sym (passed-first (limitRefusals s) (ruleRefusals s) e))
+        passed-first (limitRefusals s) (roomRefusal s words ∷ ruleRefusals s) e ∙ rw (held (roomRefusal s words .kept) h, judged) (sym (passed-first (limitRefusals s) (ruleRefusals s) e))
     go (Verdict.Refused number item) e =
         refused-first (limitRefusals s) (roomRefusal s words ∷ ruleRefusals s) number item e ∙ sym (refused-first (limitRefusals s) (ruleRefusals s) number item e)
 
@@ -56,15 +57,28 @@ module _ (page : List ℕ) where
   unfolding placedText
   placed-long h = rw (lt-ltb maxPage (length page) h, placedText)
 
-  -- a refused page is its refusal's line
-  pub placed-refused : (number line : ℕ) → length page ≤ maxPage → judgedPage page ≡ Judged.Refused number line → placedText page ≡ refusedText number line
+  -- a page whose head counts more than the program holds
+  pub placed-beyond : length page ≤ maxPage → holds (headBeyond page) ≡ true → placedText page ≡ refusedText 1 0
   unfolding placedText
-  placed-refused number line h e = rw (le-ltb maxPage (length page) h, placedText) (rw e)
+  placed-beyond h b = rw (le-ltb maxPage (length page) h, placedText) (rw b)
 
-  -- a good page is its sheet with its points
-  pub placed-good : (count : ℕ) → length page ≤ maxPage → judgedPage page ≡ Judged.Good count → placedText page ≡ sheetText (pageSheet page) (pointWords page count)
-  unfolding placedText
-  placed-good count h e = rw (le-ltb maxPage (length page) h, placedText) (rw e)
+  -- a good page that the program holds has no more of anything than fits
+  pub held-counts : (count : ℕ) → GoodPage page count → holds (headBeyond page) ≡ false
+      → Means (countsWithinUnder programLimits (headVertices page) (headEdges page) (headZones page))
+  held-counts count g b =
+      let first = g .0 0 (omega arith) in
+      ⊎-elim (λ m. m) (λ f. absurd (denies (headBeyond page) b (first .0, (first .1 .0, (first .1 .1 .0, f))))) (decided (countsWithinUnder programLimits (headVertices page) (headEdges page) (headZones page)))
+
+  module _ (held-head : holds (headBeyond page) ≡ false) where
+    -- a refused page is its refusal's line
+    pub placed-refused : (number line : ℕ) → length page ≤ maxPage → judgedPage page ≡ Judged.Refused number line → placedText page ≡ refusedText number line
+    unfolding placedText
+    placed-refused number line h e = rw (le-ltb maxPage (length page) h, placedText) (rw held-head (rw e))
+
+    -- a good page is its sheet with its points
+    pub placed-good : (count : ℕ) → length page ≤ maxPage → judgedPage page ≡ Judged.Good count → placedText page ≡ sheetText (pageSheet page) (pointWords page count)
+    unfolding placedText
+    placed-good count h e = rw (le-ltb maxPage (length page) h, placedText) (rw held-head (rw e))
 
   -- a lent text with room
   pub places : (text : List ℕ) → maxText ≤ length text → placePage page text ≡ record { written = Written.Text (length (placedText page)); text = put (placedText page) text }

@@ -6,26 +6,30 @@ use frames::MAX_PAGE;
 use frames::MAX_TEXT;
 use frames::Page;
 use frames::Written;
+use pages::heads::head_beyond;
 use pages::read_page;
-use subdivision::MAX_EDGES;
-use subdivision::MAX_VERTICES;
-use subdivision::MAX_ZONES;
+use subdivision::HELD_EDGES;
+use subdivision::HELD_VERTICES;
+use subdivision::HELD_ZONES;
 ghost use mathlib.Core.Path.{_≡_};
+ghost use mathlib.Core.Bool.{false};
 ghost use Prim.Native.Nat.{ℕ, _*_, _≤_};
 ghost use lib.ListN.{length, take};
 ghost use Rattle.io.specs.Counts.{Counts};
+ghost use Rattle.subdivision.specs.Formula.{holds};
 ghost use Rattle.subdivision.specs.Lists.{put};
+ghost use Rattle.subdivision.specs.Layout.{indexNeed};
 ghost use Rattle.subdivision.specs.Sheet.{sheetOf};
 ghost use Rattle.frames.specs.declared.Written.{Written};
-ghost use Rattle.frames.specs.Placing.{maxPage, maxText, sheetText, placedText, placePage};
+ghost use Rattle.frames.specs.Placing.{maxPage, maxText, sheetText, headBeyond, placedText, placePage};
 
 mod sheet;
 
 // A page of MAX_PAGE bytes has fewer points than this.
 const MAX_POINTS: usize = 3450;
 
-// The words of the longest index.
-const MAX_INDEX: usize = 3 * MAX_ZONES + MAX_EDGES + 1;
+// The words of the longest index of a sheet that the program holds.
+const HELD_INDEX: usize = 3 * HELD_ZONES + HELD_EDGES + 1;
 
 // Writes what the program prints for a page to the front of `text`, and gives its length; or gives refusal 33 where `text` has
 // less room than MAX_TEXT bytes, and writes nothing.
@@ -40,10 +44,13 @@ pub fn place_page(page: &[u8], text: &mut [u8]) -> Written
     if MAX_PAGE < page.len() {
         return Written::Text(put_refusal(34, 0, text, 0));
     }
-    let mut vertices = [0i32; 2 * MAX_VERTICES];
-    let mut edges = [0u32; 4 * MAX_EDGES];
+    if head_beyond(page) {
+        return Written::Text(put_refusal(1, 0, text, 0));
+    }
+    let mut vertices = [0i32; 2 * HELD_VERTICES];
+    let mut edges = [0u32; 4 * HELD_EDGES];
     let mut points = [0i32; 2 * MAX_POINTS];
-    let mut index = [0u32; MAX_INDEX];
+    let mut index = [0u32; HELD_INDEX];
     Written::Text(place_read(
         page,
         &mut vertices,
@@ -54,7 +61,7 @@ pub fn place_page(page: &[u8], text: &mut [u8]) -> Written
     ))
 }
 
-// Reads a page into tables with room for any, and writes what is printed for it.
+// Reads a page that the program holds into tables with room for any such, and writes what is printed for it.
 fn place_read(
     page: &[u8],
     vertices: &mut [i32],
@@ -64,7 +71,7 @@ fn place_read(
     text: &mut [u8],
 ) -> usize
     requires { ⌜ (length (now page) ≤ maxPage) × (maxText ≤ length (now text)) ⌝ }
-    requires { ⌜ (2048 ≤ length (now vertices)) × ((8192 ≤ length (now edges)) × ((6900 ≤ length (now points)) × (5121 ≤ length (now index)))) ⌝ }
+    requires { ⌜ (2048 ≤ length (now vertices)) × ((8192 ≤ length (now edges)) × ((6900 ≤ length (now points)) × ((5121 ≤ length (now index)) × (holds (headBeyond (now page)) ≡ false)))) ⌝ }
     ensures { λ r. ⌜ r ≡ length (placedText (now (page .entry))) ⌝ }
     ensures { λ _. ⌜ now (text .exit) ≡ put (placedText (now (page .entry))) (now (text .entry)) ⌝ }
 {
@@ -85,7 +92,7 @@ fn place_head(
     text: &mut [u8],
 ) -> usize
     requires { ⌜ (2 * head .vertices ≤ length (now vertices)) × ((4 * head .edges ≤ length (now edges)) × (2 * count ≤ length (now points))) ⌝ }
-    requires { ⌜ (5121 ≤ length (now index)) × ((60 ≤ length (now text)) × (30 * count ≤ length (now text))) ⌝ }
+    requires { ⌜ (indexNeed (head .zones) (head .edges) ≤ length (now index)) × ((60 ≤ length (now text)) × (30 * count ≤ length (now text))) ⌝ }
     ensures { λ r. ⌜ r ≡ length (sheetText (sheetOf (head .west) (head .east) (take (2 * head .vertices) (now (vertices .entry))) (take (4 * head .edges) (now (edges .entry))) (head .zones)) (take (2 * count) (now (points .entry)))) ⌝ }
     ensures { λ _. ⌜ now (text .exit) ≡ put (sheetText (sheetOf (head .west) (head .east) (take (2 * head .vertices) (now (vertices .entry))) (take (4 * head .edges) (now (edges .entry))) (head .zones)) (take (2 * count) (now (points .entry)))) (now (text .entry)) ⌝ }
 {

@@ -9,13 +9,14 @@ ghost use mathlib.Core.Path.{_≡_};
 ghost use Prim.Native.Nat.{_*_, _/_, _≤_};
 ghost use lib.ListN.{length};
 ghost use Rattle.subdivision.specs.Lists.{put};
+ghost use Rattle.subdivision.specs.Layout.{indexNeed};
 ghost use Rattle.subdivision.specs.Sheet.{sheetOf};
 ghost use Rattle.subdivision.specs.Accepted.{Accepted};
 ghost use Rattle.subdivision.specs.Engine.{HoldsIndex};
 ghost use Rattle.subdivision.specs.Calls.{reading};
 ghost use Rattle.frames.specs.Placing.{answersText, sheetText};
 
-// Opens a sheet over an index with room for any, and writes what is printed for it and its points.
+// Opens a sheet over an index with room for it, and writes what is printed for it and its points.
 pub(crate) fn place_sheet(
     west: i32,
     east: i32,
@@ -26,7 +27,7 @@ pub(crate) fn place_sheet(
     index: &mut [u32],
     text: &mut [u8],
 ) -> usize
-    requires { ⌜ (5121 ≤ length (now index)) × ((60 ≤ length (now text)) × (30 * (length (now points) / 2) ≤ length (now text))) ⌝ }
+    requires { ⌜ (indexNeed zones (length (now edges) / 4) ≤ length (now index)) × ((60 ≤ length (now text)) × (30 * (length (now points) / 2) ≤ length (now text))) ⌝ }
     ensures { λ r. ⌜ r ≡ length (sheetText (sheetOf west east (now (vertices .entry)) (now (edges .entry)) zones) (now (points .entry))) ⌝ }
     ensures { λ _. ⌜ now (text .exit) ≡ put (sheetText (sheetOf west east (now (vertices .entry)) (now (edges .entry)) zones) (now (points .entry))) (now (text .entry)) ⌝ }
 {

@@ -23,13 +23,15 @@ use Rattle.subdivision.specs.Accepted.{Accepted}
 use Rattle.subdivision.specs.Reading.{onSheet, firstZone, readingLine, beneath, zoneBeneath, plainReading}
 use Rattle.subdivision.specs.Earlier.{earlierReadingRefusals, GivenAsBefore}
 use Rattle.subdivision.specs.Placed.{OnSheet, OffVertices, OffEdges, OneThingOnly, ReadingsAgree}
-use Rattle.subdivision.specs.Calls.{reading}
+use Rattle.subdivision.specs.Calls.{readingUnder, reading}
+use Rattle.subdivision.specs.Signed.{ReadAsSigned}
 use Rattle.theory.proofs.Chains.{accepted-line}
 use Rattle.theory.proofs.Decide.{means}
 use Rattle.theory.proofs.Judgement.{judged-append, none-named, accepted-decides}
 use Rattle.theory.proofs.CircleZones.{reading-circle}
 use Rattle.theory.proofs.Earlier.{reading-as-before, given-as-before}
 use Rattle.theory.proofs.Faults.{reading-refused-exactly}
+use Rattle.theory.proofs.WithinLimits.{read-as-signed}
 use Rattle.theory.proofs.OneThing.{by-plain, one-thing, accepted-reads}
 use Rattle.theory.proofs.Readings.{zones-agree, read-so}
 use Rattle.scans.specs.Scans.{vertexAt, edgeOn, edgeBeneath, zoneFrom, placed}
@@ -78,7 +80,8 @@ module _ (s : Sheet) (x y : ℤ) where
       × (OneThingOnly s (shifted x) (shifted y) r
       × (ReadingsAgree s (shifted x) (shifted y) r
       × (((item : ℕ) → r ≡ Answer.Refused 13 item → LowestOnCircle s item)
-      × GivenAsBefore (earlierReadingRefusals s (shifted x) (shifted y)) (λ number item. r ≡ Answer.Refused number item)))))
+      × (GivenAsBefore (earlierReadingRefusals s (shifted x) (shifted y)) (λ number item. r ≡ Answer.Refused number item)
+      × ReadAsSigned s x y r)))))
 
   -- the answer that a verdict comes to
   abbrev answerTo : Verdict → Answer
@@ -121,7 +124,7 @@ module _ (s : Sheet) (x y : ℤ) where
 
   -- the answer that the definition gives keeps every promise
   promised : (r : Answer) → r ≡ reading s x y → Promised r
-  promised r e = subst Promised (sym e) (refl, (refused-exactly, (in-one-thing, (in-zone, (λ item g. reading-circle s (shifted x) (shifted y) item (refused-exactly 13 item .0 g), as-before)))))
+  promised r e = subst Promised (sym e) (refl, (refused-exactly, (in-one-thing, (in-zone, (λ item g. reading-circle s (shifted x) (shifted y) item (refused-exactly 13 item .0 g), (as-before, read-as-signed s x y))))))
     where
       in-one-thing : OneThingOnly s (shifted x) (shifted y) (reading s x y)
       in-one-thing a o = rw (accepted-reads s a x y o) (one-thing s a (shifted x) (shifted y) o)
@@ -137,12 +140,12 @@ module _ (s : Sheet) (x y : ℤ) where
   -- a refusal of the tables keeps them
   pub refusal-promised : (number item : ℕ) → judged (tableRefusals s) ≡ Verdict.Refused number item → Promised (Answer.Refused number item)
   unfolding reading
-  refusal-promised number item e = promised (Answer.Refused number item) (rw (e, reading))
+  refusal-promised number item e = promised (Answer.Refused number item) (rw (e, readingUnder))
 
   -- refusal 20 of a point that is not on the sheet keeps them
   pub off-sheet-promised : judged (tableRefusals s) ≡ Verdict.Passed → holds (onSheet s (shifted x) (shifted y)) ≡ false → Promised (Answer.Refused 20 0)
   unfolding reading
-  off-sheet-promised e f = promised (Answer.Refused 20 0) (rw (e, f, reading))
+  off-sheet-promised e f = promised (Answer.Refused 20 0) (rw (e, f, readingUnder))
 
   -- what the scans find keeps them
   pub placed-promised : (first : ℕ) → judged (tableRefusals s) ≡ Verdict.Passed → holds (onSheet s (shifted x) (shifted y)) ≡ true → first ≡ firstZone s

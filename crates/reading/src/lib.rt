@@ -14,6 +14,7 @@ ghost use Rattle.subdivision.specs.Faults.{GivenBy, LowestOnCircle, readingRefu
 ghost use Rattle.subdivision.specs.Earlier.{earlierReadingRefusals, GivenAsBefore};
 ghost use Rattle.subdivision.specs.Placed.{OneThingOnly, ReadingsAgree};
 ghost use Rattle.subdivision.specs.Calls.{reading};
+ghost use Rattle.subdivision.specs.Signed.{ReadAsSigned};
 
 // Reads the point (x, y): the vertex that it equals, else the edge that it lies on, else the zone; or
 // one of the refusals 1, 2, 4 to 13 and 20, in that order.
@@ -32,6 +33,7 @@ pub fn read_point(
     ensures agreed { λ r. ⌜ ReadingsAgree (sheetOf west east (now (vertices .entry)) (now (edges .entry)) zones) (shifted x) (shifted y) r ⌝ }
     ensures circle { λ r. ⌜ ((item : ℕ) → r ≡ Answer.Refused 13 item → LowestOnCircle (sheetOf west east (now (vertices .entry)) (now (edges .entry)) zones) item) ⌝ }
     ensures as_before { λ r. ⌜ GivenAsBefore (earlierReadingRefusals (sheetOf west east (now (vertices .entry)) (now (edges .entry)) zones) (shifted x) (shifted y)) (λ number item. r ≡ Answer.Refused number item) ⌝ }
+    ensures signed { λ r. ⌜ ReadAsSigned (sheetOf west east (now (vertices .entry)) (now (edges .entry)) zones) x y r ⌝ }
 {
     let mut line = [0u32; MAX_ZONES];
     match sheet::rules(west, east, vertices, edges, zones, &mut line) {

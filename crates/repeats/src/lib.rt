@@ -30,8 +30,20 @@ pub fn point_order(vertices: &[i32], order: &mut [u32])
 {
     let mut keys = [0u64; MAX_VERTICES];
     let mut scratch = [0u32; MAX_VERTICES];
-    point_keys(vertices, &mut keys);
-    sorting::order::sort(&keys, order, &mut scratch);
+    let n = order.len();
+    sort_by_point(vertices, &mut keys[..n], &mut scratch[..n], order);
+}
+
+// Sorts the vertices as `point_order` does, with storage lent: a key and a place of `scratch` for each.
+fn sort_by_point(vertices: &[i32], keys: &mut [u64], scratch: &mut [u32], order: &mut [u32])
+    requires { ⌜ length (now order) ≤ maxVertices ⌝ }
+    requires { ⌜ (length (now keys) ≡ length (now order)) × (length (now scratch) ≡ length (now order)) ⌝ }
+    ensures sorted { λ _. ⌜ now (order .exit) ≡ inOrder (λ v. pairKey (vertexX (now (vertices .entry)) v) (vertexY (now (vertices .entry)) v)) (length (now (order .entry))) ⌝ }
+    ensures once { λ _. ⌜ SortedBelow (λ v. pairKey (vertexX (now (vertices .entry)) v) (vertexY (now (vertices .entry)) v)) (length (now (order .entry))) (now (order .exit)) ⌝ }
+    ensures by_point { λ _. ⌜ ByPoint (now (vertices .entry)) (now (order .exit)) ⌝ }
+{
+    point_keys(vertices, keys);
+    sorting::order::sort(keys, order, scratch);
 }
 
 // Writes the key of each vertex to its place, and past the last vertex that of the point (0, 0).

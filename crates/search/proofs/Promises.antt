@@ -21,11 +21,13 @@ use Rattle.subdivision.specs.Damage.{SearchRefuses}
 use Rattle.subdivision.specs.Reading.{onSheet}
 use Rattle.subdivision.specs.Descent.{Turn, onward, answered, damaged, indexDescent}
 use Rattle.subdivision.specs.Engine.{CountsBounded, ThirdDemand}
-use Rattle.subdivision.specs.Calls.{Searched, searchRefused, searchEnded, searching}
+use Rattle.subdivision.specs.Calls.{Searched, searchRefused, searchEnded, searchingUnder, searching}
+use Rattle.subdivision.specs.Signed.{SearchedAsSigned}
 use Rattle.theory.proofs.Decide.{held, fails}
 use Rattle.theory.proofs.Judgement.{refused-first, passed-first, none-named}
 use Rattle.theory.proofs.SearchRefusals.{search-refused-exactly, refused-leaves}
 use Rattle.theory.proofs.ThirdDemand.{search-bounded, third-demand}
+use Rattle.theory.proofs.WithinLimits.{searched-as-signed}
 use Rattle.descent.specs.Steps.{foundBy, trailOf}
 
 module _ (s : Sheet) (index : List ℕ) (x y : ℤ) (lent : List ℕ) where
@@ -37,13 +39,14 @@ module _ (s : Sheet) (index : List ℕ) (x y : ℤ) (lent : List ℕ) where
       × (((number item : ℕ) → (r .answer ≡ Answer.Refused number item) ↔ SearchRefuses s index (shifted x) (shifted y) (length lent) number item)
       × (((number item : ℕ) → r .answer ≡ Answer.Refused number item → (left ≡ lent) × ((r .examined ≡ 0) × (r .probes ≡ 0)))
       × (CountsBounded s r
-      × ThirdDemand s index (shifted x) (shifted y) lent r left))))
+      × (ThirdDemand s index (shifted x) (shifted y) lent r left
+      × SearchedAsSigned s index x y lent r left)))))
 
   -- what the definition gives keeps every promise
   promised : (r : Searched) → r ≡ searching s index x y lent → Promised (r .found) (r .trail)
   promised r e =
       subst (λ (q : Searched). Promised (q .found) (q .trail)) (sym e)
-      (refl, (refl, (search-refused-exactly s index x y lent, (refused-leaves s index x y lent, (search-bounded s index x y lent, third-demand s index x y lent)))))
+      (refl, (refl, (search-refused-exactly s index x y lent, (refused-leaves s index x y lent, (search-bounded s index x y lent, (third-demand s index x y lent, searched-as-signed s index x y lent))))))
 
   -- a refusal, and the trail as it was
   abbrev RefusalPromised : ℕ → ℕ → Type 0
@@ -57,7 +60,7 @@ module _ (s : Sheet) (index : List ℕ) (x y : ℤ) (lent : List ℕ) where
   -- a refusal by a line
   by-line : (number item : ℕ) → judged (searchRefusals s (length index) (shifted x) (shifted y) (length lent)) ≡ Verdict.Refused number item → RefusalPromised number item
   unfolding searching
-  by-line number item e = promised (searchRefused number item lent) (rw (e, searching))
+  by-line number item e = promised (searchRefused number item lent) (rw (e, searchingUnder))
 
   -- a refusal by the limits
   pub refused-by-limits : (number item : ℕ) → judged (limitRefusals s) ≡ Verdict.Refused number item → RefusalPromised number item
@@ -90,10 +93,10 @@ module _ (s : Sheet) (index : List ℕ) (x y : ℤ) (lent : List ℕ) where
         -- what the descent finds, and what it lists written over the front of the trail
         pub descended : bits (zoneCount s - 1) ≤ length lent → (r : Found) (left : List ℕ) → r ≡ foundBy (indexDescent s index (shifted x) (shifted y))
             → left ≡ put (trailOf (indexDescent s index (shifted x) (shifted y))) lent → Promised r left
-        unfolding searching
+        unfolding searching indexDescent
         descended h r left f l =
             promised (record { found = r; trail = left })
-            ((λ i. record { found = f i; trail = l i }) ∙ ended (indexDescent s index (shifted x) (shifted y)) ∙ rw (passes, searching))
+            ((λ i. record { found = f i; trail = l i }) ∙ ended (indexDescent s index (shifted x) (shifted y)) ∙ rw (passes, searchingUnder))
           where
             passes : judged (searchRefusals s (length index) (shifted x) (shifted y) (length lent)) ≡ Verdict.Passed
             passes =

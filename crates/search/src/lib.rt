@@ -18,6 +18,7 @@ ghost use Rattle.subdivision.specs.Sheet.{shifted, sheetOf};
 ghost use Rattle.subdivision.specs.Damage.{SearchRefuses};
 ghost use Rattle.subdivision.specs.Engine.{CountsBounded, ThirdDemand};
 ghost use Rattle.subdivision.specs.Calls.{searching};
+ghost use Rattle.subdivision.specs.Signed.{SearchedAsSigned};
 
 // Searches for the point (x, y) by the words of `index`, and writes the edges examined, in order, to
 // the front of `trail`; or gives one of the refusals 1, 2, 3, 20, 21 and 22, in that order, and
@@ -39,6 +40,7 @@ pub fn search_point(
     ensures untouched { λ r. ⌜ ((number item : ℕ) → r .answer ≡ Answer.Refused number item → (now (trail .exit) ≡ now (trail .entry)) × ((r .examined ≡ 0) × (r .probes ≡ 0))) ⌝ }
     ensures bounded { λ r. ⌜ CountsBounded (sheetOf west east (now (vertices .entry)) (now (edges .entry)) zones) r ⌝ }
     ensures third_demand { λ r. ⌜ ThirdDemand (sheetOf west east (now (vertices .entry)) (now (edges .entry)) zones) (now (index .entry)) (shifted x) (shifted y) (now (trail .entry)) r (now (trail .exit)) ⌝ }
+    ensures signed { λ r. ⌜ SearchedAsSigned (sheetOf west east (now (vertices .entry)) (now (edges .entry)) zones) (now (index .entry)) x y (now (trail .entry)) r (now (trail .exit)) ⌝ }
 {
     match sheet::limits(west, east, vertices, edges, zones) {
         Verdict::Refused(number, item) => return refused(number, item),

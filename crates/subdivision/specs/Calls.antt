@@ -1,6 +1,6 @@
 -- The three calls, each with its refusals in order: document 01, "Why the desk refuses".
 use mathlib.Core.Bool.{true, false}
-use mathlib.Core.List.{List, _∷_, _++_}
+use mathlib.Core.List.{List}
 use Prim.Native.Nat.{ℕ}
 use lib.IntN.{ℤ}
 use lib.ListN.{length}
@@ -10,12 +10,13 @@ use Rattle.subdivision.specs.declared.Verdict.the-variants.{Passed, Refu
 use Rattle.subdivision.specs.declared.Found.{Found}
 use Rattle.subdivision.specs.Formula.{holds}
 use Rattle.subdivision.specs.Sheet.{Sheet, shifted}
-use Rattle.subdivision.specs.Refusals.{judged, limitRefusals, roomRefusal, ruleRefusals}
-use Rattle.subdivision.specs.Faults.{searchRefusals}
-use Rattle.subdivision.specs.Reading.{onSheet, plainReading}
+use Rattle.subdivision.specs.Limits.{Limits, limits}
+use Rattle.subdivision.specs.Refusals.{judged}
+use Rattle.subdivision.specs.Faults.{openingRefusalsUnder, tableRefusalsUnder, searchRefusalsUnder}
+use Rattle.subdivision.specs.Reading.{onSheetUnder, plainReading}
 use Rattle.subdivision.specs.Index.{indexWords}
 use Rattle.subdivision.specs.Lists.{put}
-use Rattle.subdivision.specs.Descent.{Descent, Turn, onward, answered, damaged, indexDescent}
+use Rattle.subdivision.specs.Descent.{Descent, Turn, onward, answered, damaged, indexDescentUnder}
 
 -- what a call of opening leaves: its verdict and the lent index
 pub record Opened : Type 0 where
@@ -43,25 +44,38 @@ searchEnded (onward d) trail = searchRefused 22 0 trail
 searchEnded (answered a d) trail = searchAnswered a d trail
 searchEnded damaged trail = searchRefused 22 0 trail
 
+module _ (l : Limits) (s : Sheet) where
+  -- opening, under limits: checks 1 to 13 in this order and then writes the index
+  abbrev pub openingUnder : List ℕ → Opened
+  openingUnder index =
+      elim (judged (openingRefusalsUnder l s (length index))) [ Passed ↦ record { verdict = Passed; index = put (indexWords s) index } | Refused number item ↦ record { verdict = Refused number item; index = index } ]
+
+  -- the plain reading, under limits: checks 1, 2, 4 to 13, 20 and needs no index
+  abbrev pub readingUnder : ℤ → ℤ → Answer
+  readingUnder x y =
+      elim (judged (tableRefusalsUnder l s)) [
+        | Refused number item ↦ Answer.Refused number item
+        | Passed ↦
+            elim (holds (onSheetUnder s l (shifted x) (shifted y))) [ false ↦ Answer.Refused 20 0 | true ↦ plainReading s (shifted x) (shifted y) ]
+      ]
+
+  -- the quick search, under limits: checks 1, 2, 3, 20, 21, and 22 as it goes
+  abbrev pub searchingUnder : List ℕ → ℤ → ℤ → List ℕ → Searched
+  searchingUnder index x y trail =
+      elim (judged (searchRefusalsUnder l s (length index) (shifted x) (shifted y) (length trail))) [
+        | Refused number item ↦ searchRefused number item trail
+        | Passed ↦ searchEnded (indexDescentUnder l s index (shifted x) (shifted y)) trail
+      ]
+
 module _ (s : Sheet) where
   -- opening checks 1 to 13 in this order and then writes the index
   unfoldable pub opening : List ℕ → Opened
-  opening index =
-      elim (judged (limitRefusals s ++ (roomRefusal s (length index) ∷ ruleRefusals s))) [ Passed ↦ record { verdict = Passed; index = put (indexWords s) index } | Refused number item ↦ record { verdict = Refused number item; index = index } ]
+  opening index = openingUnder limits s index
 
   -- the plain reading checks 1, 2, 4 to 13, 20 and needs no index
   unfoldable pub reading : ℤ → ℤ → Answer
-  reading x y =
-      elim (judged (limitRefusals s ++ ruleRefusals s)) [
-        | Refused number item ↦ Answer.Refused number item
-        | Passed ↦
-            elim (holds (onSheet s (shifted x) (shifted y))) [ false ↦ Answer.Refused 20 0 | true ↦ plainReading s (shifted x) (shifted y) ]
-      ]
+  reading x y = readingUnder limits s x y
 
   -- the quick search checks 1, 2, 3, 20, 21, and 22 as it goes
   unfoldable pub searching : List ℕ → ℤ → ℤ → List ℕ → Searched
-  searching index x y trail =
-      elim (judged (searchRefusals s (length index) (shifted x) (shifted y) (length trail))) [
-        | Refused number item ↦ searchRefused number item trail
-        | Passed ↦ searchEnded (indexDescent s index (shifted x) (shifted y)) trail
-      ]
+  searching index x y trail = searchingUnder limits s index x y trail

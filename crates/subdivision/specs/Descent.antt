@@ -15,18 +15,20 @@ use Rattle.subdivision.specs.Formula.{Formula, isLess, isAtMost, both, n
 use Rattle.subdivision.specs.Dyadic.{topBit, leftSon, rightSon}
 use Rattle.subdivision.specs.Sheet.{Sheet, eastMargin, edgeCount, zoneCount, westOf, eastOf, aboveOf, belowOf, segment}
 use Rattle.subdivision.specs.Lines.{covers, sideAt}
-use Rattle.subdivision.specs.Rules.{vertexInside, edgeNames, edgeRuns}
+use Rattle.subdivision.specs.Limits.{Limits, limits}
+use Rattle.subdivision.specs.Rules.{vertexInsideUnder, edgeNames, edgeRuns}
 use Rattle.subdivision.specs.Reading.{isVertex}
 use Rattle.subdivision.specs.Index.{placeOf, zoneAt, startOf, entryAt}
 use Rattle.subdivision.specs.Layout.{placeWord, zoneWord, startWord, entryWord}
 
--- the look-ups that a descent reads, and whether what they give is judged as refusal 22 says
+-- the look-ups that a descent reads, whether what they give is judged as refusal 22 says, and under which limits
 pub record LookUps : Type 0 where
   pub place : ℕ → ℕ
   pub zone : ℕ → ℕ
   pub start : ℕ → ℕ
   pub entry : ℕ → ℕ
   pub judging : Bool
+  pub limits : Limits
 
 -- the state of a descent: the places i and j, the chain k, the edges examined so far in order, and the probes so far
 pub record Descent : Type 0 where
@@ -50,11 +52,15 @@ breaks w kept = elim (w .judging) [ true ↦ holds (notSo kept) | false ↦ fals
 abbrev pub start : Sheet → Descent
 start s = record { i = 0; j = zoneCount s - 1; k = topBit (zoneCount s - 1); trail = []; probes = 0 }
 
+-- refusal 22, under limits: a probed entry is an edge, and its record, its vertices included, is not at fault under 4, 6 or 7
+abbrev pub entrySoundUnder : Limits → Sheet → ℕ → Formula
+entrySoundUnder l s e =
+    both (isLess e (edgeCount s))
+    (both (edgeNames s e) (both (both (vertexInsideUnder l s (westOf s e)) (vertexInsideUnder l s (eastOf s e))) (edgeRuns s e)))
+
 -- refusal 22: a probed entry is an edge, and its record, its vertices included, is not at fault under 4, 6 or 7
 abbrev pub entrySound : Sheet → ℕ → Formula
-entrySound s e =
-    both (isLess e (edgeCount s))
-    (both (edgeNames s e) (both (both (vertexInside s (westOf s e)) (vertexInside s (eastOf s e))) (edgeRuns s e)))
+entrySound s e = entrySoundUnder limits s e
 
 module _ (s : Sheet) (w : LookUps) where
   -- refusal 22: the start of a chain to be examined and the next start are at most m, and not the wrong way round
@@ -72,7 +78,7 @@ module _ (s : Sheet) (w : LookUps) where
     -- one look at entry e: x < western x, x beyond the covered part, or otherwise that edge covers
     abbrev pub look : ℕ → Look
     look e =
-        elim (breaks w (entrySound s e)) [
+        elim (breaks w (entrySoundUnder (w .limits) s e)) [
           | true ↦ Faulty
           | false ↦
               elim (ltb x (segment s e .xw)) [
@@ -173,16 +179,24 @@ module _ (s : Sheet) (w : LookUps) (x y : ℕ) where
 
 -- the look-ups made from the tables alone: nothing is judged
 abbrev pub tableLookUps : Sheet → LookUps
-tableLookUps s = record { place = placeOf s; zone = zoneAt s; start = startOf s; entry = entryAt s; judging = false }
+tableLookUps s = record { place = placeOf s; zone = zoneAt s; start = startOf s; entry = entryAt s; judging = false; limits = limits }
+
+-- the look-ups made from the words of a lent index: judged as they are read, under limits
+abbrev pub indexLookUpsUnder : Limits → Sheet → List ℕ → LookUps
+indexLookUpsUnder l s index = record { place = λ z. getD index (placeWord (zoneCount s) z) 0; zone = λ p. getD index (zoneWord (zoneCount s) p) 0; start = λ k. getD index (startWord (zoneCount s) k) 0; entry = λ t. getD index (entryWord (zoneCount s) t) 0; judging = true; limits = l }
 
 -- the look-ups made from the words of a lent index: judged as they are read
 abbrev pub indexLookUps : Sheet → List ℕ → LookUps
-indexLookUps s index = record { place = λ z. getD index (placeWord (zoneCount s) z) 0; zone = λ p. getD index (zoneWord (zoneCount s) p) 0; start = λ k. getD index (startWord (zoneCount s) k) 0; entry = λ t. getD index (entryWord (zoneCount s) t) 0; judging = true }
+indexLookUps s index = indexLookUpsUnder limits s index
 
 -- the published descent, defined on the tables alone
 unfoldable pub publishedDescent : Sheet → ℕ → ℕ → Turn
 publishedDescent s x y = descent s (tableLookUps s) x y
 
+-- the descent over the words of a lent index, under limits
+abbrev pub indexDescentUnder : Limits → Sheet → List ℕ → ℕ → ℕ → Turn
+indexDescentUnder l s index x y = descent s (indexLookUpsUnder l s index) x y
+
 -- the descent over the words of a lent index
 unfoldable pub indexDescent : Sheet → List ℕ → ℕ → ℕ → Turn
-indexDescent s index x y = descent s (indexLookUps s index) x y
+indexDescent s index x y = indexDescentUnder limits s index x y

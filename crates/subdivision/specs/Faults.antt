@@ -6,8 +6,9 @@ use Prim.Native.Nat.{ℕ, _<_}
 use Rattle.subdivision.specs.Formula.{Formula, Means}
 use Rattle.subdivision.specs.Sheet.{Sheet, zoneCount}
 use Rattle.subdivision.specs.ZoneLine.{OnCircle}
-use Rattle.subdivision.specs.Refusals.{Refusal, unnamed, limitRefusals, roomRefusal, ruleRefusals, trailRoom}
-use Rattle.subdivision.specs.Reading.{onSheet}
+use Rattle.subdivision.specs.Limits.{Limits, limits}
+use Rattle.subdivision.specs.Refusals.{Refusal, unnamed, limitRefusalsUnder, roomRefusal, ruleRefusalsUnder, trailRoom}
+use Rattle.subdivision.specs.Reading.{onSheetUnder, onSheet}
 
 -- the named item breaks the clause, and no lower one does
 pub record LowestFault (clause : ℕ → Formula) (items item : ℕ) : Type 0 where
@@ -39,13 +40,28 @@ abbrev pub AllKept : List Refusal → Type 0
 AllKept [] = Unit {0}
 AllKept (r ∷ rs) = Means (r .kept) × AllKept rs
 
+module _ (l : Limits) (s : Sheet) where
+  -- the lines of the table that opening checks under limits, in order: 1 to 13
+  abbrev pub openingRefusalsUnder : ℕ → List Refusal
+  openingRefusalsUnder words = limitRefusalsUnder l s ++ (roomRefusal s words ∷ ruleRefusalsUnder s l)
+
+  -- the lines of the table about the tables alone under limits, in order: 1, 2, 4 to 13
+  abbrev pub tableRefusalsUnder : List Refusal
+  tableRefusalsUnder = limitRefusalsUnder l s ++ ruleRefusalsUnder s l
+
+  -- the lines of the table that the quick search checks under limits before it reads a word of the index, in order: 1, 2, 3, 20, 21
+  abbrev pub searchRefusalsUnder : ℕ → ℕ → ℕ → ℕ → List Refusal
+  searchRefusalsUnder words x y places =
+      limitRefusalsUnder l s
+      ++ (roomRefusal s words ∷ unnamed 20 (onSheetUnder s l x y) ∷ unnamed 21 (trailRoom s places) ∷ [])
+
 -- the lines of the table that opening checks, in order: 1 to 13
 abbrev pub openingRefusals : Sheet → ℕ → List Refusal
-openingRefusals s words = limitRefusals s ++ (roomRefusal s words ∷ ruleRefusals s)
+openingRefusals s words = openingRefusalsUnder limits s words
 
 -- the lines of the table about the tables alone, in order: 1, 2, 4 to 13
 abbrev pub tableRefusals : Sheet → List Refusal
-tableRefusals s = limitRefusals s ++ ruleRefusals s
+tableRefusals s = tableRefusalsUnder limits s
 
 -- the lines of the table that the plain reading checks, in order: 1, 2, 4 to 13, 20
 abbrev pub readingRefusals : Sheet → ℕ → ℕ → List Refusal
@@ -53,5 +69,4 @@ readingRefusals s x y = tableRefusals s ++ (unnamed 20 (onSheet s x y) ∷ [])
 
 -- the lines of the table that the quick search checks before it reads a word of the index, in order: 1, 2, 3, 20, 21
 abbrev pub searchRefusals : Sheet → ℕ → ℕ → ℕ → ℕ → List Refusal
-searchRefusals s words x y places =
-    limitRefusals s ++ (roomRefusal s words ∷ unnamed 20 (onSheet s x y) ∷ unnamed 21 (trailRoom s places) ∷ [])
+searchRefusals s words x y places = searchRefusalsUnder limits s words x y places

@@ -1,4 +1,4 @@
--- Document 01 as definitions, with the order of document 02's P3 and the circles of its P4: what a reader must believe. One file a subject.
+-- Document 01 as definitions, with document 02's order of P3, circles of P4 and limits of P5: what a reader must believe. One file a subject.
 pub mod Limits
 pub mod Formula
 pub mod Lowest
@@ -23,9 +23,11 @@ pub mod Descent
 pub mod Damage
 pub mod Engine
 pub mod Calls
+pub mod Signed
 pub mod Answers
 pub mod WorkedTable
 pub mod WorkedOrder
 pub mod Slips
 pub mod WorkedRefusals
 pub mod WorkedCircles
+pub mod WorkedLimits

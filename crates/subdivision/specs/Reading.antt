@@ -10,13 +10,18 @@ use Rattle.subdivision.specs.Lowest.{lowest}
 use Rattle.subdivision.specs.Sheet.{Sheet, westMargin, eastMargin, vertexCount, edgeCount, zoneCount, xOf, yOf, aboveOf, belowOf, segment}
 use Rattle.subdivision.specs.Lines.{covers, coversWest, isAbove, isBelow, isOn}
 use Rattle.subdivision.specs.Neighbours.{isHighest, isLowest}
-use Rattle.subdivision.specs.Rules.{inRange}
+use Rattle.subdivision.specs.Limits.{Limits, limits}
+use Rattle.subdivision.specs.Rules.{inRangeUnder}
 use Rattle.subdivision.specs.ZoneLine.{zoneLine}
 
 module _ (s : Sheet) where
+  -- the point is on the sheet, under limits: W <= x <= E and y in range
+  abbrev pub onSheetUnder : Limits → ℕ → ℕ → Formula
+  onSheetUnder l x y = both (both (isAtMost (westMargin s) x) (isAtMost x (eastMargin s))) (inRangeUnder l y)
+
   -- the point is on the sheet: W <= x <= E and y in range; refusal 20 is given exactly when it is not
   abbrev pub onSheet : ℕ → ℕ → Formula
-  onSheet x y = both (both (isAtMost (westMargin s) x) (isAtMost x (eastMargin s))) (inRange y)
+  onSheet x y = onSheetUnder limits x y
 
   -- the first zone in the line of rule 7
   unfoldable pub firstZone : ℕ

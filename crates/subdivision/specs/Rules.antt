@@ -1,21 +1,29 @@
 -- Rules 1 to 6 of document 01, "Rules of an accepted sheet", each clause by the item that a refusal charges it to.
 use Prim.Native.Nat.{ℕ, _+_, _*_, _-_}
-use Rattle.subdivision.specs.Limits.{lowestCoordinate, highestCoordinate}
+use Rattle.subdivision.specs.Limits.{Limits, limits, lowestUnder, highestUnder}
 use Rattle.subdivision.specs.Formula.{Formula, isLess, isAtMost, isEqual, both, either, implies, notSo, everyBelow, someBelow}
 use Rattle.subdivision.specs.Sheet.{Sheet, westMargin, eastMargin, vertexCount, edgeCount, zoneCount, xOf, yOf, westOf, eastOf, aboveOf, belowOf, segment}
 use Rattle.subdivision.specs.Lines.{conflict}
 use Rattle.subdivision.specs.Neighbours.{isHighest, isLowest, isNextUp}
 
+-- a shifted coordinate is in range, under limits
+abbrev pub inRangeUnder : Limits → ℕ → Formula
+inRangeUnder l c = both (isAtMost (lowestUnder l) c) (isAtMost c (highestUnder l))
+
 -- a shifted coordinate is in range
 abbrev pub inRange : ℕ → Formula
-inRange c = both (isAtMost lowestCoordinate c) (isAtMost c highestCoordinate)
+inRange c = inRangeUnder limits c
+
+-- rule 1, under limits: vertex v is in range and W <= x <= E
+abbrev pub vertexInsideUnder : Limits → Sheet → ℕ → Formula
+vertexInsideUnder l s v =
+    both (both (inRangeUnder l (xOf s v)) (inRangeUnder l (yOf s v)))
+    (both (isAtMost (westMargin s) (xOf s v)) (isAtMost (xOf s v) (eastMargin s)))
 
 module _ (s : Sheet) where
   -- rule 1: vertex v is in range and W <= x <= E
   abbrev pub vertexInside : ℕ → Formula
-  vertexInside v =
-      both (both (inRange (xOf s v)) (inRange (yOf s v)))
-      (both (isAtMost (westMargin s) (xOf s v)) (isAtMost (xOf s v) (eastMargin s)))
+  vertexInside v = vertexInsideUnder limits s v
 
   -- rule 1: vertex v is the same point as no earlier one
   abbrev pub vertexNew : ℕ → Formula

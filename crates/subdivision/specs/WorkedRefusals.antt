@@ -55,13 +55,13 @@ pub worked-refusals :
     × (tab (λ z. holds (aboveCircle (twoLenses 1 2) z)) 4 ≡ false ∷ true ∷ true ∷ true ∷ [])
     -- 13 index words give 3, also where a vertex is bad
     × (opening (wideLens 4 4) (tab w 13) ≡ record { verdict = Refused 3 0; index = tab w 13 })
-    × (verdictOn (wideLens 4 1000001) w 13 ≡ Refused 3 0)
+    × (verdictOn (wideLens 4 1000000001) w 13 ≡ Refused 3 0)
     -- where 3 is judged after the rules it gives 4
-    × (judged (limitRefusals (wideLens 4 1000001) ++ (ruleRefusals (wideLens 4 1000001) ++ (roomRefusal (wideLens 4 1000001) 13 ∷ []))) ≡ Refused 4 3)
-    -- x = 1,000,000 stands, 1,000,001 gives 4, and as a margin 2
-    × (verdictOn (wideLens 1000000 1000000) w 14 ≡ Passed)
-    × (verdictOn (wideLens 1000000 1000001) w 14 ≡ Refused 4 3)
-    × (verdictOn (wideLens 1000001 1000000) w 14 ≡ Refused 2 0)
+    × (judged (limitRefusals (wideLens 4 1000000001) ++ (ruleRefusals (wideLens 4 1000000001) ++ (roomRefusal (wideLens 4 1000000001) 13 ∷ []))) ≡ Refused 4 3)
+    -- x = 1,000,000,000 stands, 1,000,000,001 gives 4, and as a margin 2
+    × (verdictOn (wideLens 1000000000 1000000000) w 14 ≡ Passed)
+    × (verdictOn (wideLens 1000000000 1000000001) w 14 ≡ Refused 4 3)
+    × (verdictOn (wideLens 1000000001 1000000000) w 14 ≡ Refused 2 0)
     -- nothing drawn: n = 2 gives 12, zone 0; n = 1 is accepted, with its index
     × (verdictOn (blank 2) w 9 ≡ Refused 12 0)
     × (opening (blank 1) (tab w 5) ≡ record { verdict = Passed; index = 0 ∷ 0 ∷ 0 ∷ 0 ∷ w 4 ∷ [] })

@@ -1,22 +1,31 @@
 // The answers of document 01, as types, and its limits as the sizes of local storage. The definitions over them are in specs/.
 
 // At most so many vertices.
-pub const MAX_VERTICES: usize = 1024;
+pub const MAX_VERTICES: usize = 4096;
 
 // At most so many edges.
-pub const MAX_EDGES: usize = 2048;
+pub const MAX_EDGES: usize = 8192;
 
 // At most so many zones.
-pub const MAX_ZONES: usize = 1024;
+pub const MAX_ZONES: usize = 4096;
 
 // A search examines at most so many edges: the bit length of MAX_ZONES - 1.
-pub const MAX_EXAMINED: usize = 10;
+pub const MAX_EXAMINED: usize = 12;
 
 // The lowest coordinate, shifted.
-pub const LOWEST: u32 = 2146483648;
+pub const LOWEST: u32 = 1147483648;
 
 // The highest coordinate, shifted.
-pub const HIGHEST: u32 = 2148483648;
+pub const HIGHEST: u32 = 3147483648;
+
+// A program with fixed buffers holds at most so many vertices.
+pub const HELD_VERTICES: usize = 1024;
+
+// A program with fixed buffers holds at most so many edges.
+pub const HELD_EDGES: usize = 2048;
+
+// A program with fixed buffers holds at most so many zones.
+pub const HELD_ZONES: usize = 1024;
 
 // Where a point lies, or why it was not placed: the kinds are kept apart.
 pub enum Answer {

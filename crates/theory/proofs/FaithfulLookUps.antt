@@ -5,12 +5,13 @@ use mathlib.Core.List.{List}
 use Prim.Native.Nat.{ℕ, _+_, _<_, _≤_}
 use native.Mathlib.Nat.{add-zero}
 use native.Mathlib.Omega.{arith}
+use Rattle.subdivision.specs.Limits.{limits}
 use Rattle.subdivision.specs.Formula.{Formula, notSo, holds, Means}
 use Rattle.subdivision.specs.Layout.{placeWord, zoneWord, startWord, entryWord}
 use Rattle.subdivision.specs.Sheet.{Sheet, edgeCount, zoneCount, westOf, eastOf}
 use Rattle.subdivision.specs.Accepted.{Accepted}
 use Rattle.subdivision.specs.Index.{placeOf, zoneAt, startOf, entryAt}
-use Rattle.subdivision.specs.Descent.{LookUps, breaks, startsSound, entrySound, look, probe, probeChain, tableLookUps, indexLookUps}
+use Rattle.subdivision.specs.Descent.{LookUps, breaks, startsSound, entrySoundUnder, look, probe, probeChain, tableLookUps, indexLookUps}
 use Rattle.subdivision.specs.Engine.{HoldsIndex}
 use Rattle.theory.proofs.ChainCovers.{start-rises, start-within, entry-in-chain}
 use Rattle.theory.proofs.Decide.{held}
@@ -18,15 +19,16 @@ use Rattle.theory.proofs.HeldIndex.{held-word}
 use Rattle.theory.proofs.Index.{index-place, index-zone, index-start, index-entry}
 use Rattle.theory.proofs.Probes.{probe-same}
 
--- look-ups that give what the tables alone give
+-- look-ups that give what the tables alone give, judged under the limits that every call reads
 pub record Faithful (s : Sheet) (w : LookUps) : Type 0 where
   pub placed : (z : ℕ) → z < zoneCount s → w .place z ≡ placeOf s z
   pub zoned : (p : ℕ) → p < zoneCount s → w .zone p ≡ zoneAt s p
   pub started : (k : ℕ) → k ≤ zoneCount s → w .start k ≡ startOf s k
   pub entered : (t : ℕ) → t < edgeCount s → w .entry t ≡ entryAt s t
+  pub limited : w .limits ≡ limits
 
 pub tables-faithful : (s : Sheet) → Faithful s (tableLookUps s)
-tables-faithful s = record { placed = λ z h. refl; zoned = λ p h. refl; started = λ k h. refl; entered = λ t h. refl }
+tables-faithful s = record { placed = λ z h. refl; zoned = λ p h. refl; started = λ k h. refl; entered = λ t h. refl; limited = refl }
 
 pub index-faithful : (s : Sheet) (index : List ℕ) → HoldsIndex s index → Faithful s (indexLookUps s index)
 index-faithful s index h =
@@ -35,6 +37,7 @@ index-faithful s index h =
       zoned = λ p b. held-word s index h (zoneWord (zoneCount s) p) (omega arith) ∙ index-zone s p b;
       started = λ k b. held-word s index h (startWord (zoneCount s) k) (omega arith) ∙ index-start s k b;
       entered = λ t b. held-word s index h (entryWord (zoneCount s) t) (omega arith) ∙ index-entry s t;
+      limited = refl;
     }
 
 -- what is so does not break a look-up, judged or not
@@ -50,7 +53,7 @@ module _ (s : Sheet) (a : Accepted s) (w : LookUps) (f : Faithful s w) (x : ℕ)
   looks-same : (e : ℕ) → e < edgeCount s → look s w x e ≡ look s (tableLookUps s) x e
   looks-same e b =
       let names = a .two .0 e b in
-      rw (breaks-not w (entrySound s e) (b, (names, ((a .one .0 (westOf s e) (names .0 .0), a .one .0 (eastOf s e) (names .0 .1)), a .two .1 .0 e b))), look)
+      rw (breaks-not w (entrySoundUnder (w .limits) s e) (rw (f .limited) (b, (names, ((a .one .0 (westOf s e) (names .0 .0), a .one .0 (eastOf s e) (names .0 .1)), a .two .1 .0 e b)))), look)
 
   module _ (k : ℕ) (inside : k < zoneCount s) where
     start-same : w .start k ≡ startOf s k

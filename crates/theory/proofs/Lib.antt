@@ -71,5 +71,6 @@ pub mod Tops
 pub mod TransectNames
 pub mod Transects
 pub mod Turns
+pub mod WithinLimits
 pub mod Written
 pub mod ZoneLine

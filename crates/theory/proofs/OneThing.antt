@@ -11,7 +11,7 @@ use Rattle.subdivision.specs.Sheet.{Sheet, shifted, vertexCount, edgeCount, zon
 use Rattle.subdivision.specs.Lines.{edgePart, isOn}
 use Rattle.subdivision.specs.Accepted.{Accepted}
 use Rattle.subdivision.specs.Reading.{onSheet, isVertex, zoneBeneath, plainReading}
-use Rattle.subdivision.specs.Calls.{reading}
+use Rattle.subdivision.specs.Calls.{readingUnder, reading}
 use Rattle.subdivision.specs.Placed.{OnSheet, IsVertex, IsOn, OffVertices, OffEdges, InOneThing, ReadBeneath}
 use Rattle.theory.proofs.Chains.{accepted-above}
 use Rattle.theory.proofs.ColumnFans.{fan-level}
@@ -106,4 +106,4 @@ module _ (s : Sheet) (a : Accepted s) where
   -- the call of the plain reading gives it for every point that is on the sheet
   pub accepted-reads : (x y : ℤ) → OnSheet s (shifted x) (shifted y) → reading s x y ≡ plainReading s (shifted x) (shifted y)
   unfolding reading
-  accepted-reads x y o = rw (accepted-decides s .1 a, held (onSheet s (shifted x) (shifted y)) o, reading)
+  accepted-reads x y o = rw (accepted-decides s .1 a, held (onSheet s (shifted x) (shifted y)) o, readingUnder)

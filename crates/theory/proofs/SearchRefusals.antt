@@ -17,7 +17,7 @@ use Rattle.subdivision.specs.Faults.{GivenBy, AllKept, searchRefusals}
 use Rattle.subdivision.specs.Damage.{ComesToFault, SearchRefuses}
 use Rattle.subdivision.specs.Reading.{isVertex}
 use Rattle.subdivision.specs.Descent.{LookUps, Descent, Turn, answered, damaged, onEdge, turn, start, descent, indexLookUps, indexDescent}
-use Rattle.subdivision.specs.Calls.{Searched, searchRefused, searchAnswered, searchEnded, searching}
+use Rattle.subdivision.specs.Calls.{Searched, searchRefused, searchAnswered, searchEnded, searchingUnder, searching}
 use Rattle.theory.proofs.Damages.{damaged-exactly, answered-or-damaged}
 use Rattle.theory.proofs.Judgement.{passed-keeps, kept-passes}
 use Rattle.theory.proofs.Faults.{search-judged-exactly}
@@ -79,11 +79,11 @@ module _ (s : Sheet) (index : List ℕ) (x y : ℤ) (lent : List ℕ) where
 
   refuses : (number item : ℕ) → judged lines ≡ Refused number item → result ≡ searchRefused number item lent
   unfolding searching
-  refuses number item e = rw (e, searching)
+  refuses number item e = rw (e, searchingUnder)
 
   ends : (t : Turn) → AllKept lines → ended ≡ t → result ≡ searchEnded t lent
-  unfolding searching
-  ends t k e = rw (kept-passes lines k, searching, e)
+  unfolding searching indexDescent
+  ends t k e = rw (kept-passes lines k, searchingUnder, e)
 
   -- a search comes by one of the three
   pub search-comes : ByLine ⊎ (ByAnswer ⊎ ByDamage)

@@ -14,7 +14,7 @@ use Rattle.subdivision.specs.Reading.{onSheet, plainReading}
 use Rattle.subdivision.specs.Placed.{OnSheet}
 use Rattle.subdivision.specs.Descent.{Descent, answered, descent, publishedDescent, indexDescent, tableLookUps, indexLookUps}
 use Rattle.subdivision.specs.Engine.{HoldsIndex, CountsBounded, QuickAnswers, ThirdDemand}
-use Rattle.subdivision.specs.Calls.{Searched, searchRefused, searchAnswered, reading, searching}
+use Rattle.subdivision.specs.Calls.{Searched, searchRefused, searchAnswered, readingUnder, reading, searchingUnder, searching}
 use Rattle.theory.proofs.Decide.{decided, fails}
 use Rattle.theory.proofs.Descents.{descent-counts}
 use Rattle.theory.proofs.FaithfulLookUps.{tables-faithful, index-faithful}
@@ -59,9 +59,9 @@ module _ (s : Sheet) (index : List ℕ) (x y : ℤ) (lent : List ℕ) where
     over-index = ended .2 (indexLookUps s index) (index-faithful s index h)
 
     searched : searching s index x y lent ≡ searchAnswered plain last lent
-    unfolding searching
+    unfolding searching indexDescent
     searched =
-        rw (kept-passes (searchRefusals s (length index) (shifted x) (shifted y) (length lent)) (a .counts, (a .margins, (held-long s a index h, (o, (room, tt))))), searching, over-index)
+        rw (kept-passes (searchRefusals s (length index) (shifted x) (shifted y) (length lent)) (a .counts, (a .margins, (held-long s a index h, (o, (room, tt))))), searchingUnder, over-index)
 
     answers : QuickAnswers s (shifted x) (shifted y) lent (searchAnswered plain last lent .found) (searchAnswered plain last lent .trail)
     answers =
@@ -98,12 +98,12 @@ module _ (s : Sheet) (index : List ℕ) (x y : ℤ) (lent : List ℕ) where
   search-off a h off =
       let kept = passed-keeps (tableRefusals s) (accepted-decides s .1 a) in
       let refused = says-given (searchRefusals s (length index) (shifted x) (shifted y) (length lent)) 20 0 (inr (kept .0, inr (kept .1 .0, inr (held-long s a index h, inl (refl, (off, inl (refl, refl))))))) in
-      rw (refused, searching)
+      rw (refused, searchingUnder)
 
   -- and so is the plain reading
   read-off : Accepted s → (OnSheet s (shifted x) (shifted y) → ⊥) → reading s x y ≡ Answer.Refused 20 0
   unfolding reading
-  read-off a off = rw (accepted-decides s .1 a, reading) (rw (fails (onSheet s (shifted x) (shifted y)) off))
+  read-off a off = rw (accepted-decides s .1 a, readingUnder) (rw (fails (onSheet s (shifted x) (shifted y)) off))
 
   -- an opened sheet searched at any point, with room for a trail, gives the plain reading's answer
   pub searched-is-read-everywhere : Accepted s → HoldsIndex s index → bits (zoneCount s - 1) ≤ length lent → searching s index x y lent .found .answer ≡ reading s x y

@@ -1,20 +1,24 @@
-//! Writes a repository in which the checker evaluates the definitions of document 01 on the outside vectors:
-//! each call of a small sheet becomes an equation between the definition and the vector's answer, closed by computation. The vectors'
-//! refusal 13 names the zone that it named before P4: that zone is compared with the line as it stood, and the zone named now is the one
-//! that the closure of the steps gives.
+//! Writes a repository in which the checker evaluates the definitions of document 01 on the outside vectors: each call of a small sheet
+//! becomes an equation between the definition and the vector's answer, closed by computation. The vectors were made for the limits before
+//! P5, under which their answers are compared; where the limits make a difference, the answer given now is compared too. Their refusal 13
+//! names the zone that it named before P4: that zone is compared with the line as it stood, and the zone named now is the one that the
+//! closure of the steps gives.
 //!
 //! `evaluate VECTORS REPOSITORY`: VECTORS is the folder of base-*.txt, REPOSITORY is made anew.
-#[path = "../../rust/src/circles.rs"]
-mod circles;
-
+use evaluate::amended::{self, Amended, Opened, Searched};
+use evaluate::sheet::Sheet;
+use evaluate::vectors::{files, Line, LENT};
 use std::fmt::Write as _;
 use std::{env, fs, path::Path};
 
 /// Sheets with more edges than this are left to the code's own tests: the definitions are not made to be quick.
 const EDGES: usize = 12;
+
+/// On sheets with more vertices than this no plain reading is taken under the limits as they are.
+const VERTICES: usize = 64;
+
 /// The plain readings taken of one sheet: each judges the sheet anew.
 const READINGS: usize = 4;
-const LENT: &str = "2779096485";
 
 const USES: &str = "\
 use mathlib.Core.Path.{_≡_, refl}
@@ -23,6 +27,7 @@ use lib.IntN.{pos, negsuc}
 use lib.ListN.{replicate}
 use Rattle.subdivision.specs.declared.Answer.{Answer}
 use Rattle.subdivision.specs.declared.Verdict.{Verdict}
+use Rattle.subdivision.specs.Limits.{earlierLimits}
 use Rattle.subdivision.specs.Lowest.{lowest}
 use Rattle.subdivision.specs.Lists.{tab}
 use Rattle.subdivision.specs.Dyadic.{bits, topBit, lowBit, lca}
@@ -34,64 +39,135 @@ use Rattle.subdivision.specs.Index.{placeOf, zoneAt, chainOf, eastward, chain, 
 use Rattle.subdivision.specs.Descent.{descent, indexDescent}
 use Rattle.subdivision.specs.Refusals.{names}
 use Rattle.subdivision.specs.Earlier.{earlierCircleRefusal}
-use Rattle.subdivision.specs.Calls.{Opened, Searched, opening, reading, searching}
+use Rattle.subdivision.specs.Calls.{Opened, Searched, openingUnder, readingUnder, searchingUnder, opening, reading, searching}
 ";
 const UNFOLDING: &str = "unfolding opening reading searching descent indexDescent placeOf zoneAt chainOf eastward chain startOf \
 indexWords firstZone zoneBeneath plainReading nextZone zoneLine inOrder bits topBit lowBit lca lowest tab";
 
-fn integer(word: &str) -> String {
-    let v: i64 = word.parse().expect("a number");
-    if v < 0 { format!("negsuc {}", -v - 1) } else { format!("pos {v}") }
+fn integer(v: i32) -> String {
+    if v < 0 { format!("negsuc {}", -1 - i64::from(v)) } else { format!("pos {v}") }
 }
 
 fn list(words: impl Iterator<Item = String>) -> String {
     words.fold(String::new(), |l, w| l + &w + " ∷ ") + "[]"
 }
 
-fn words(w: &[&str]) -> String {
-    list(w.iter().map(|s| s.to_string()))
+fn words(w: &[u32]) -> String {
+    list(w.iter().map(u32::to_string))
 }
 
-fn answer(w: &[&str]) -> String {
-    match w[0] {
-        "vertex" => format!("Answer.Vertex {}", w[1]),
-        "edge" => format!("Answer.Edge {}", w[1]),
-        "zone" => format!("Answer.Zone {}", w[1]),
-        "refused" => format!("Answer.Refused {} {}", w[1], w[2]),
-        other => panic!("unknown answer {other}"),
+fn answer([kind, number, item]: [u32; 3]) -> String {
+    match kind {
+        0 => format!("Answer.Refused {number} {item}"),
+        kind => format!("Answer.{} {number}", ["Vertex", "Edge", "Zone"][kind as usize - 1]),
     }
 }
 
-/// The zone that refusal 13 names now, on the sheet of these edges, where it named this one before.
-fn named(edges: &[&str], zones: &str, before: &str) -> String {
-    let number = |word: &str| word.parse().expect("a number");
-    let edges: Vec<u32> = edges.iter().map(|word| number(word)).collect();
-    circles::amended(&edges, number(zones), number(before)).to_string()
+/// The equation of an opening by this definition.
+fn opened(opening: &str, lent: usize, ([number, item], left): &Opened) -> String {
+    let result = match number {
+        0 => format!("verdict = Verdict.Passed; index = {}", words(left)),
+        _ => format!("verdict = Verdict.Refused {number} {item}; index = replicate {lent} {LENT}"),
+    };
+    format!("{opening} sheet (replicate {lent} {LENT}) ≡ record {{ {result} }}")
 }
 
-fn opened(call: &[&str], a: &[&str]) -> String {
-    let result = if a[0] == "opened" {
-        format!("verdict = Verdict.Passed; index = {}", words(&a[1..]))
-    } else {
-        format!("verdict = Verdict.Refused {} {}; index = replicate {} {LENT}", a[1], a[2], call[1])
-    };
-    format!("opening sheet (replicate {} {LENT}) ≡ record {{ {result} }}", call[1])
+/// The equation of a reading by this definition.
+fn read(reading: &str, (x, y): (i32, i32), said: [u32; 3]) -> String {
+    format!("{reading} sheet ({}) ({}) ≡ {}", integer(x), integer(y), answer(said))
 }
 
-fn searched(index: &[&str], call: &[&str], a: &[&str]) -> String {
-    let room: usize = call[3].parse().expect("a length");
-    let (trail, probes): (Vec<&str>, &str) = if a[0] == "refused" {
-        (vec![], "0")
-    } else {
-        let t = a.iter().position(|w| *w == "trail").expect("a trail");
-        let p = a.iter().position(|w| *w == "probes").expect("the probes");
-        (a[t + 1..p].to_vec(), a[p + 1])
-    };
-    let left: Vec<&str> = trail.iter().copied().chain(std::iter::repeat(LENT)).take(room).collect();
+/// The equation of a search by this definition.
+fn searched(searching: &str, index: &[u32], (x, y): (i32, i32), (out, left): &Searched) -> String {
+    let &[kind, number, item, examined, probes] = out;
+    let found = format!("answer = {}; examined = {examined}; probes = {probes}", answer([kind, number, item]));
     format!(
-        "searching sheet ({}) ({}) ({}) (replicate {room} {LENT}) ≡ record {{ found = record {{ answer = {}; examined = {}; probes = {probes} }}; trail = {} }}",
-        words(index), integer(call[1]), integer(call[2]), answer(a), trail.len(), words(&left)
+        "{searching} sheet ({}) ({}) ({}) (replicate {} {LENT}) ≡ record {{ found = record {{ {found} }}; trail = {} }}",
+        words(index), integer(x), integer(y), left.len(), words(left)
     )
+}
+
+/// The equations of the calls of one sheet, as a module.
+struct Module {
+    text: String,
+    cases: usize,
+    sheet: Sheet,
+    readings: usize,
+}
+
+impl Module {
+    /// No equation yet.
+    fn new(sheet: Sheet) -> Self {
+        let mut text = format!("{USES}\nabbrev sheet : Sheet\n");
+        let vertices = list(sheet.vertices.iter().map(|&c| integer(c)));
+        let (west, east, edges, n) = (integer(sheet.west), integer(sheet.east), words(&sheet.edges), sheet.zones);
+        writeln!(text, "sheet = record {{ west = {west}; east = {east}; vertices = {vertices}; edges = {edges}; zones = {n} }}").unwrap();
+        Module { text, cases: 0, sheet, readings: 0 }
+    }
+
+    /// Adds an equation.
+    fn equate(&mut self, equation: &str) {
+        self.cases += 1;
+        write!(self.text, "\ncase{0} : {equation}\n{UNFOLDING}\ncase{0} = refl\n", self.cases).unwrap();
+    }
+
+    /// Adds the equation of a call under the earlier limits, and that of the call where the limits make a difference; says whether it is
+    /// added.
+    fn call<T: std::fmt::Debug + PartialEq>(&mut self, name: &str, a: &Amended<T>, equation: impl Fn(&str, &T) -> String) -> bool {
+        self.equate(&equation(&format!("{name}Under earlierLimits"), &a.earlier));
+        let evaluated = a.differs() && (name != "reading" || self.sheet.vertices.len() <= 2 * VERTICES);
+        if evaluated {
+            self.equate(&equation(name, &a.now));
+        }
+        evaluated
+    }
+
+    /// Adds the equations of a line, over these index words; says how many calls are evaluated, and how many of them as given now.
+    fn line(&mut self, line: &Line, index: &[u32]) -> [usize; 2] {
+        let s = self.sheet.clone();
+        let differs = match line {
+            Line::Sheet(_) | Line::Lend(_) => return [0, 0],
+            Line::Read { .. } if self.readings == READINGS => return [0, 0],
+            Line::Open { lent, said } => {
+                let differs = self.call("opening", &amended::open(&s, lent, said), |name, a| opened(name, lent.len(), a));
+                if said.0[0] == 13 {
+                    self.equate(&format!("names (earlierCircleRefusal sheet) ≡ {}", said.0[1]));
+                }
+                differs
+            }
+            Line::Read { point, said } => {
+                self.readings += 1;
+                self.call("reading", &amended::read(&s, *point, *said), |name, a| read(name, *point, *a))
+            }
+            Line::Search { point, lent, said } => {
+                self.call("searching", &amended::search(&s, index, *point, lent, said), |name, a| searched(name, index, *point, a))
+            }
+        };
+        [1, differs as usize]
+    }
+}
+
+/// Makes the modules of a file of vectors, one for each small sheet, and counts the calls.
+fn modules(lines: &[String], calls: &mut [usize; 2]) -> Vec<String> {
+    let (mut list, mut index): (Vec<Module>, Vec<u32>) = (vec![], vec![]);
+    let mut taken = false;
+    for line in lines.iter().map(|line| Line::read(line)) {
+        if let Line::Sheet(sheet) = line {
+            taken = sheet.edges.len() <= 4 * EDGES;
+            list.extend(taken.then(|| Module::new(sheet)));
+            continue;
+        }
+        if let Some(module) = list.last_mut().filter(|_| taken) {
+            let [made, moved] = module.line(&line, &index);
+            *calls = [calls[0] + made, calls[1] + moved];
+        }
+        match line {
+            Line::Open { said, .. } => index = said.1,
+            Line::Lend(words) => index = words,
+            _ => {}
+        }
+    }
+    list.into_iter().filter(|module| module.cases > 0).map(|module| module.text).collect()
 }
 
 fn main() {
@@ -99,81 +175,17 @@ fn main() {
     let (vectors, repository) = (Path::new(&arguments[1]), Path::new(&arguments[2]));
     let specs = repository.join("crates/vectors/specs");
     fs::create_dir_all(&specs).expect("a folder");
-    let mut names: Vec<_> = fs::read_dir(vectors).expect("the vectors").map(|f| f.unwrap().path()).collect();
-    names.sort();
-    let (mut modules, mut lines, mut sheets) = (String::new(), 0usize, 0usize);
-    for path in names.iter().filter(|p| p.file_name().unwrap().to_str().unwrap().starts_with("base-")) {
-        let text = fs::read_to_string(path).expect("a file of vectors");
-        let mut module = String::new();
-        let mut index: Vec<&str> = vec![];
-        let (mut name, mut cases, mut readings) = (String::new(), 0usize, 0usize);
-        let (mut edges, mut zones): (Vec<&str>, &str) = (vec![], "0");
-        let mut flush = |name: &str, module: &mut String| {
-            if !module.is_empty() {
-                fs::write(specs.join(format!("{name}.antt")), &*module).expect("a module");
-                writeln!(modules, "pub mod {name}").unwrap();
-                module.clear();
-            }
-        };
-        for line in text.lines() {
-            if let Some(sheet) = line.strip_prefix("sheet ") {
-                flush(&name, &mut module);
-                let parts: Vec<Vec<&str>> = sheet.split('|').map(|p| p.split_whitespace().collect()).collect();
-                (cases, readings) = (0, 0);
-                (edges, zones) = (parts[2].clone(), parts[0][2]);
-                if parts[2].len() > 4 * EDGES {
-                    continue;
-                }
-                sheets += 1;
-                name = format!("Sheet{sheets}");
-                write!(
-                    module,
-                    "{USES}\nabbrev sheet : Sheet\nsheet = record {{ west = {}; east = {}; vertices = {}; edges = {}; zones = {} }}\n",
-                    integer(parts[0][0]), integer(parts[0][1]), list(parts[1].iter().map(|w| integer(w))), words(&parts[2]), parts[0][2]
-                ).unwrap();
-                continue;
-            }
-            if module.is_empty() {
-                continue;
-            }
-            let (call, result) = line.split_once(" -> ").unwrap_or((line, ""));
-            let (call, a): (Vec<&str>, Vec<&str>) = (call.split_whitespace().collect(), result.split_whitespace().collect());
-            let moved = a.starts_with(&["refused", "13"]).then(|| named(&edges, zones, a[2]));
-            let now: Vec<&str> = moved.as_ref().map_or(a.clone(), |zone| vec!["refused", "13", zone]);
-            let equation = match call[0] {
-                "lend" => {
-                    index = call[1..].to_vec();
-                    continue;
-                }
-                "open" => {
-                    if a[0] == "opened" {
-                        index = a[1..].to_vec();
-                    }
-                    opened(&call, &now)
-                }
-                "read" => {
-                    readings += 1;
-                    if readings > READINGS {
-                        continue;
-                    }
-                    format!("reading sheet ({}) ({}) ≡ {}", integer(call[1]), integer(call[2]), answer(&now))
-                }
-                "search" => searched(&index, &call, &a),
-                other => panic!("unknown call {other}"),
-            };
-            let earlier = (call[0] == "open" && moved.is_some()).then(|| format!("names (earlierCircleRefusal sheet) ≡ {}", a[2]));
-            lines += 1;
-            for equation in [equation].into_iter().chain(earlier) {
-                cases += 1;
-                write!(module, "\ncase{cases} : {equation}\n{UNFOLDING}\ncase{cases} = refl\n").unwrap();
-            }
+    let (mut names, mut calls) = (vec![], [0, 0]);
+    for (_, lines) in files(vectors) {
+        for module in modules(&lines, &mut calls) {
+            names.push(format!("Sheet{}", names.len() + 1));
+            fs::write(specs.join(format!("{}.antt", names[names.len() - 1])), module).expect("a module");
         }
-        flush(&name, &mut module);
     }
-    assert!(lines > 0, "no line of the vectors was taken");
-    fs::write(specs.join("Lib.antt"), modules).expect("the root module");
+    assert!(calls.iter().all(|&count| count > 0), "no line of the vectors was taken");
+    fs::write(specs.join("Lib.antt"), names.iter().map(|name| format!("pub mod {name}\n")).collect::<String>()).expect("the root module");
     fs::create_dir_all(repository.join("crates/vectors/src")).expect("a folder");
     fs::write(repository.join("crates/vectors/src/lib.rt"), "// Equations only: specs/.\n").expect("the library");
     fs::write(repository.join("crates.txt"), "subdivision:\nvectors: subdivision\n").expect("crates.txt");
-    println!("{lines} calls on {sheets} sheets");
+    println!("{} calls on {} sheets, {} of them under the limits as they are too", calls[0], names.len(), calls[1]);
 }

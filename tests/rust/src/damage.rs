@@ -1,6 +1,6 @@
 //! Damage: words made wrong in an index and in the tables under it, aimed at each cause of refusal 22, and too little room.
 use crate::faults::record;
-use crate::paper::Searched;
+use crate::paper::{Searched, LIMITS};
 use crate::sheets::Sheet;
 use crate::Random;
 
@@ -53,7 +53,10 @@ fn damage_tables(r: &mut Random, s: &mut Sheet) {
     let (e, at) = (record(r, s.edges.len(), 4), r.below(s.vertices.len() as u64) as usize);
     let (word, vertices) = (e + r.below(4) as usize, s.vertices.len() as u32 / 2);
     match r.below(6) {
-        0 => s.vertices[at] = r.one(&[1_000_000, 1_000_001, -1_000_001, i32::MAX, i32::MIN, s.vertices[at].saturating_add(1)]),
+        0 => {
+            let (far, near) = (LIMITS.reach, s.vertices[at].saturating_add(1));
+            s.vertices[at] = r.one(&[far, far + 1, -far - 1, i32::MAX, i32::MIN, near]);
+        }
         1 => s.edges.swap(e, e + 1),
         2 => s.edges[e] = s.edges[e + 1],
         3 => s.edges[word] = r.one(&[vertices, s.zones, u32::MAX, s.edges[word].saturating_add(1)]),
@@ -82,4 +85,10 @@ pub fn room(r: &mut Random, need: usize) -> usize {
         1 => r.below(need as u64 + 1) as usize,
         _ => need + r.below(3) as usize,
     }
+}
+
+/// How many index words to lend for a sheet with faults, whose counts may be far beyond the limits.
+pub fn index_room(r: &mut Random, s: &Sheet) -> usize {
+    let most = 3 * LIMITS.zones as usize + LIMITS.edges + 1;
+    room(r, s.need().min(most + 100))
 }

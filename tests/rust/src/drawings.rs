@@ -1,4 +1,5 @@
 //! Drawings: points, the edges between them, and the faces above and below each edge; as triangulations, by columns, and woven.
+use crate::paper::LIMITS;
 use crate::Random;
 
 /// A point by its abscissa and its height.
@@ -178,17 +179,18 @@ impl Drawing {
     }
 }
 
-/// A triangulation of points with different abscissas, made from west to east, with as many more edges than points as asked for.
-pub fn triangulated(r: &mut Random, surplus: usize) -> Option<Drawing> {
+/// A triangulation of points with different abscissas, made from west to east, none of them further than so far from 0, with as many
+/// more edges than points as asked for.
+pub fn triangulated(r: &mut Random, reach: i64, surplus: usize) -> Option<Drawing> {
     let mut d = Drawing { faces: 2, ..Drawing::default() };
-    let step = 2 * r.between(1, (990_000 / (surplus as i64 + 8)).max(1));
-    let tall = r.one(&[4, 1_000, 999_998]);
+    let step = 2 * r.between(1, 3 * reach / (surplus as i64 + 8));
+    let tall = r.one(&[4, 1_000, reach]);
     let (mut over, mut under) = (vec![], vec![]);
-    let mut x = -999_998;
+    let mut x = -reach;
     while d.edges.len() < surplus + d.points.len() || d.points.len() < 2 {
         let p = d.points.len();
         x += 2 * r.between(1, step / 2);
-        if x > 999_998 {
+        if x > reach {
             return None;
         }
         d.points.push((x, 2 * r.between(-tall / 2, tall / 2)));
@@ -242,13 +244,14 @@ pub fn columned(r: &mut Random, frame: Frame, wide: usize, tall: u64) -> Drawing
     d
 }
 
-/// A drawing of so many columns, one to three units apart, with so many points each, and edges between neighbouring columns
-/// only, as many as there can be.
+/// A drawing of so many columns, one to three units apart or as far as can be, with so many points each, and edges between neighbouring
+/// columns only, as many as there can be.
 pub fn woven(r: &mut Random, wide: usize, tall: usize) -> Drawing {
     let mut d = Drawing::default();
-    let apart = r.between(1, 3);
-    for c in 0..wide as i64 {
-        (0..tall as i64).for_each(|p| d.points.push((c * apart, 4 * p + r.between(0, 3))));
+    let gaps = wide as i64 - 1;
+    let apart = r.one(&[1, 2, 3, 2 * i64::from(LIMITS.reach) / gaps]);
+    for c in 0..=gaps {
+        (0..tall as i64).for_each(|p| d.points.push((c * apart - gaps * apart / 2, 4 * p + r.between(0, 3))));
     }
     for c in 1..wide {
         let (mut u, mut v) = ((c - 1) * tall, c * tall);

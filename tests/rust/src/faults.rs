@@ -1,7 +1,11 @@
 //! Faults: things made wrong in drawings and tables, aimed at each refusal of document 01 from 1 to 13.
 use crate::drawings::Drawing;
+use crate::paper::{EARLIER, LIMITS};
 use crate::sheets::{drawn, numbered, Sheet};
 use crate::Random;
+
+/// One past the last coordinate that there may be.
+const PAST: i32 = LIMITS.reach + 1;
 
 /// The first word of a random record, in a table of records of so many words.
 pub(crate) fn record(r: &mut Random, words: usize, size: usize) -> usize {
@@ -85,11 +89,11 @@ pub fn misnamed(r: &mut Random, what: usize) -> Sheet {
 
 /// Records or zones more than there may be, none of the zones, or a table that is not whole records.
 fn break_counts(r: &mut Random, s: &mut Sheet) {
-    match r.below(16) {
-        0..=3 => s.vertices.push(r.one(&[0, 1, i32::MAX])),
-        4..=7 => (0..=r.below(3)).for_each(|_| s.edges.push(0)),
-        8 => s.edges.truncate(s.edges.len().saturating_sub(1)),
-        9..=14 => s.zones = r.one(&[0, 1_025, u32::MAX]),
+    match r.below(128) {
+        0..=31 => s.vertices.push(r.one(&[0, 1, i32::MAX])),
+        32..=63 => (0..=r.below(3)).for_each(|_| s.edges.push(0)),
+        64..=71 => s.edges.truncate(s.edges.len().saturating_sub(1)),
+        72..=126 => s.zones = r.one(&[0, LIMITS.zones + 1, u32::MAX]),
         _ => pad(r, s, 1),
     }
 }
@@ -98,24 +102,24 @@ fn break_counts(r: &mut Random, s: &mut Sheet) {
 fn pad(r: &mut Random, s: &mut Sheet, more: usize) {
     if r.below(2) == 0 {
         let x = s.west;
-        (s.vertices.len() / 2..1_024 + more).for_each(|v| s.vertices.extend_from_slice(&[x, v as i32 - 500]));
+        (s.vertices.len() / 2..LIMITS.vertices + more).for_each(|v| s.vertices.extend_from_slice(&[x, v as i32 - 500]));
     } else {
-        (s.edges.len() / 4..2_048 + more).for_each(|_| s.edges.extend_from_slice(&[0, 1, 0, 1]));
+        (s.edges.len() / 4..LIMITS.edges + more).for_each(|_| s.edges.extend_from_slice(&[0, 1, 0, 1]));
     }
 }
 
 /// A count, a table or a margin at a limit, which may stand and leads to other faults.
 fn go_to_limits(r: &mut Random, s: &mut Sheet) {
-    match r.below(32) {
-        0..=5 => s.zones = r.one(&[1, 2, 1_024]),
-        6..=8 => s.vertices.clear(),
-        9..=11 => s.edges.clear(),
-        12..=14 => (s.vertices, s.edges) = (vec![], vec![]),
-        15..=20 => s.west = -1_000_000,
-        21..=26 => s.east = 1_000_000,
-        27..=30 if !s.vertices.is_empty() => {
+    match r.below(256) {
+        0..=49 => s.zones = r.one(&[1, 2, EARLIER.zones, EARLIER.zones + 1, LIMITS.zones]),
+        50..=74 => s.vertices.clear(),
+        75..=99 => s.edges.clear(),
+        100..=124 => (s.vertices, s.edges) = (vec![], vec![]),
+        125..=174 => s.west = r.one(&[-LIMITS.reach, -EARLIER.reach, -EARLIER.reach - 1]),
+        175..=224 => s.east = r.one(&[LIMITS.reach, EARLIER.reach, EARLIER.reach + 1]),
+        225..=254 if !s.vertices.is_empty() => {
             let at = r.below(s.vertices.len() as u64) as usize;
-            s.vertices[at] = r.one(&[-1_000_000, 1_000_000]);
+            s.vertices[at] = r.one(&[1, -1]) * r.one(&[LIMITS.reach, EARLIER.reach, EARLIER.reach + 1]);
         }
         _ => pad(r, s, 0),
     }
@@ -124,12 +128,12 @@ fn go_to_limits(r: &mut Random, s: &mut Sheet) {
 /// Margins out of range, on one abscissa or in the wrong order.
 fn break_margins(r: &mut Random, s: &mut Sheet) {
     match r.below(6) {
-        0 => s.west = r.one(&[-1_000_001, i32::MIN]),
-        1 => s.east = r.one(&[1_000_001, i32::MAX]),
+        0 => s.west = r.one(&[-PAST, i32::MIN]),
+        1 => s.east = r.one(&[PAST, i32::MAX]),
         2 => s.west = s.east,
         3 => s.east = s.west.saturating_sub(1),
         4 => (s.west, s.east) = (s.east, s.west),
-        _ => (s.west, s.east) = r.one(&[(1_000_000, 1_000_001), (-1_000_001, -1_000_000), (i32::MIN, i32::MAX)]),
+        _ => (s.west, s.east) = r.one(&[(PAST - 1, PAST), (-PAST, 1 - PAST), (i32::MIN, i32::MAX)]),
     }
 }
 
@@ -141,7 +145,7 @@ fn move_outside(r: &mut Random, s: &mut Sheet) {
         1 => s.vertices[v] = s.east.saturating_add(1),
         2 if s.west + 1 < s.east => s.west += 1,
         3 if s.west + 1 < s.east => s.east -= 1,
-        _ => s.vertices[v + r.below(2) as usize] = r.one(&[-1_000_001, 1_000_001, i32::MIN, i32::MAX]),
+        _ => s.vertices[v + r.below(2) as usize] = r.one(&[-PAST, PAST, i32::MIN, i32::MAX]),
     }
 }
 
@@ -188,8 +192,8 @@ fn take_one_zone(r: &mut Random, s: &mut Sheet) {
 fn make_irregular(r: &mut Random, s: &mut Sheet) {
     let v = record(r, s.vertices.len(), 2) as u32 / 2;
     match r.below(5) {
-        0 => s.west = (s.west - 1).max(-1_000_000),
-        1 => s.east = (s.east + 1).min(1_000_000),
+        0 => s.west = (s.west - 1).max(-LIMITS.reach),
+        1 => s.east = (s.east + 1).min(LIMITS.reach),
         2 => {
             let (x, y) = (r.between(s.west as i64, s.east as i64), r.between(-7, 7));
             s.vertices.extend_from_slice(&[x as i32, y as i32]);
@@ -221,7 +225,7 @@ fn cross_edges(r: &mut Random, s: &mut Sheet) {
             let point = [middle(0), middle(1)];
             s.vertices[v..v + 2].copy_from_slice(&point);
         }
-        4 => s.vertices[v + 1] = (s.vertices[v + 1] + r.between(-9, 9) as i32).clamp(-1_000_000, 1_000_000),
+        4 => s.vertices[v + 1] = (s.vertices[v + 1] + r.between(-9, 9) as i32).clamp(-LIMITS.reach, LIMITS.reach),
         _ => {
             let beside = (0..s.vertices.len()).step_by(2).find(|&w| w != v && s.vertices[w] == s.vertices[v]);
             s.vertices.swap(v + 1, beside.unwrap_or(u) + 1);

@@ -1,14 +1,14 @@
 //! Document 02's P2 as written, by plain means: a month of samples judged, and its ledger.
 
 use crate::pages::{over, Refusal};
-use crate::paper;
-use crate::sheets::Sheet;
+use crate::paper::{self, Limits, LIMITS, LONGEST_TRAIL};
+use crate::sheet::Sheet;
 
 /// The most samples that a month may have.
 pub const MOST: usize = 4_096;
 
 /// A trail with room on every sheet, which is lent to each search.
-const TRAIL: [u32; 10] = [0; 10];
+const TRAIL: [u32; LONGEST_TRAIL] = [0; LONGEST_TRAIL];
 
 /// A month as it is handed over: a sheet with the words of an index, the samples' points, kinds and values, the permits, and how
 /// many words are lent of each table that is written.
@@ -109,8 +109,13 @@ impl Month {
 
     /// Where the point of a sample is found.
     pub fn place(&self, sample: usize) -> Place {
+        self.place_under(&LIMITS, sample)
+    }
+
+    /// Where the point of a sample is found under limits.
+    fn place_under(&self, l: &Limits, sample: usize) -> Place {
         let (x, y) = (self.points[2 * sample], self.points[2 * sample + 1]);
-        match paper::search(&self.sheet, &self.index, x, y, &TRAIL).out {
+        match paper::search_under(l, &self.sheet, &self.index, x, y, &TRAIL).out {
             [3, zone, ..] => Place::Zone(zone as usize),
             [0, 20, ..] => Place::Off,
             [0, 22, ..] => Place::Damaged,
@@ -141,15 +146,15 @@ pub const SHORTAGES: [(&str, Fault); 8] = [
 ];
 
 /// Refusals 1, 2 and 3, which a search gives whatever its point is.
-fn tables_refused(m: &Month) -> Option<Refusal> {
-    match paper::search(&m.sheet, &m.index, 0, 0, &TRAIL).out {
+fn tables_refused(l: &Limits, m: &Month) -> Option<Refusal> {
+    match paper::search_under(l, &m.sheet, &m.index, 0, 0, &TRAIL).out {
         [0, number, item, ..] if number <= 3 => Some((number, item)),
         _ => None,
     }
 }
 
 /// The item of a refusal that is about one zone (42) or one sample (40, 22, 41), the lowest for which it is given.
-fn lowest(m: &Month, number: u32) -> Option<usize> {
+fn lowest(l: &Limits, m: &Month, number: u32) -> Option<usize> {
     let mut samples = 0..m.kinds.len();
     let taken = |sample: usize| m.reading(sample).value().is_some();
     match number {
@@ -159,21 +164,27 @@ fn lowest(m: &Month, number: u32) -> Option<usize> {
             Reading::Unknown => true,
             Reading::Measured(value) | Reading::BelowDetection(value) => !in_range(value),
         }),
-        22 => samples.find(|&sample| taken(sample) && m.place(sample) == Place::Damaged),
-        _ => samples.find(|&sample| match (m.reading(sample), m.place(sample)) {
+        22 => samples.find(|&sample| taken(sample) && m.place_under(l, sample) == Place::Damaged),
+        _ => samples.find(|&sample| match (m.reading(sample), m.place_under(l, sample)) {
             (Reading::BelowDetection(limit), Place::Zone(zone)) => limit > m.permit(zone).1,
             _ => false,
         }),
     }
 }
 
-/// The refusals of a month in their order, of which the first is given; 1, 2, 3 and 43 stand alone, since no sample can be read.
-pub fn refusals(m: &Month) -> Vec<Refusal> {
+/// The refusals of a month under limits in their order, of which the first is given; 1, 2, 3 and 43 stand alone, since no sample can be
+/// read.
+fn refusals_under(l: &Limits, m: &Month) -> Vec<Refusal> {
     let short = || SHORTAGES.iter().any(|(_, applies)| applies(m)).then_some((43, 0));
-    if let Some(refusal) = tables_refused(m).or_else(short) {
+    if let Some(refusal) = tables_refused(l, m).or_else(short) {
         return vec![refusal];
     }
-    [42, 40, 22, 41].iter().filter_map(|&number| Some((number, lowest(m, number)? as u32))).collect()
+    [42, 40, 22, 41].iter().filter_map(|&number| Some((number, lowest(l, m, number)? as u32))).collect()
+}
+
+/// The refusals of a month.
+pub fn refusals(m: &Month) -> Vec<Refusal> {
+    refusals_under(&LIMITS, m)
 }
 
 /// What a zone comes to: the sum runs in sample order from the first value, then one division by the count.
@@ -184,14 +195,19 @@ fn entry(readings: &[Reading], limit: f64) -> Entry {
     Entry { count: readings.len() as u32, below: below as u32, mean, over: mean.is_some_and(|mean| mean > limit) }
 }
 
-/// Keeps a month: its first refusal, or its ledger.
+/// Keeps a month.
 pub fn keep(m: &Month) -> Result<Ledger, Refusal> {
-    if let Some(&refusal) = refusals(m).first() {
+    keep_under(&LIMITS, m)
+}
+
+/// Keeps a month under limits: its first refusal, or its ledger.
+fn keep_under(l: &Limits, m: &Month) -> Result<Ledger, Refusal> {
+    if let Some(&refusal) = refusals_under(l, m).first() {
         return Err(refusal);
     }
     let (mut readings, mut boundary, mut off) = (vec![vec![]; m.zones()], vec![], vec![]);
     for sample in (0..m.kinds.len()).filter(|&sample| m.reading(sample) != Reading::NotTaken) {
-        match m.place(sample) {
+        match m.place_under(l, sample) {
             Place::Zone(zone) => readings[zone].push(m.reading(sample)),
             Place::Boundary => boundary.push(sample as u32),
             Place::Off => off.push(sample as u32),
@@ -211,10 +227,15 @@ fn words(entry: &Entry) -> [u32; 3] {
     [entry.count, entry.below, verdict]
 }
 
-/// Keeps a month in lent tables: refusal and item, how many samples are on a boundary and off the sheet; and every lent word
-/// afterwards. A refusal writes nothing, and a zone with nothing taken leaves its place among the means as it was.
+/// Keeps a month in lent tables.
 pub fn month(m: &Month, lent: &Lent) -> ([u32; 4], Lent) {
-    let Ledger { zones, boundary, off } = match keep(m) {
+    month_under(&LIMITS, m, lent)
+}
+
+/// Keeps a month under limits in lent tables: refusal and item, how many samples are on a boundary and off the sheet; and every lent word
+/// afterwards. A refusal writes nothing, and a zone with nothing taken leaves its place among the means as it was.
+pub fn month_under(l: &Limits, m: &Month, lent: &Lent) -> ([u32; 4], Lent) {
+    let Ledger { zones, boundary, off } = match keep_under(l, m) {
         Ok(ledger) => ledger,
         Err((number, item)) => return ([number, item, 0, 0], lent.clone()),
     };

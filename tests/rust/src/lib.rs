@@ -1,5 +1,6 @@
 //! The proved functions, as they are exported and as safe Rust, and a generator of numbers with a printed seed.
 
+pub mod amended;
 pub mod circles;
 pub mod damage;
 pub mod drawings;
@@ -7,16 +8,20 @@ pub mod faults;
 pub mod json;
 pub mod kept;
 pub mod ledger;
+pub mod long;
 pub mod months;
+pub mod paged;
 pub mod pages;
 pub mod paper;
 pub mod plain;
+pub mod sheet;
 pub mod sheets;
 pub mod texts;
+pub mod vectors;
 
 use ledger::Month;
 use pages::{Lent, Page};
-use sheets::Sheet;
+use sheet::Sheet;
 
 /// The functions as they are exported.
 pub mod exported {
@@ -230,9 +235,29 @@ pub fn lent_text(bytes: usize) -> Vec<u8> {
     lent(bytes).iter().map(|word| (word >> 24) as u8 | 0x80).collect()
 }
 
-/// How many calls a random test makes: `CALLS` where that is set.
-pub fn calls(usual: usize) -> usize {
-    std::env::var("CALLS").ok().and_then(|s| s.parse().ok()).unwrap_or(usual)
+/// The trials of a random test: how many there are, and how many there usually are.
+#[derive(Clone, Copy)]
+pub struct Trials {
+    pub count: usize,
+    usual: usize,
+}
+
+impl Trials {
+    /// As many as `CALLS` says where that is set, and otherwise the usual number.
+    pub fn new(usual: usize) -> Self {
+        let count = std::env::var("CALLS").ok().and_then(|s| s.parse().ok()).unwrap_or(usual);
+        Trials { count, usual }
+    }
+
+    /// Whether there are so many that each case has to come.
+    pub fn are_enough(&self) -> bool {
+        self.count >= self.usual
+    }
+
+    /// Prints how often each case came, and fails where one came fewer than 50 times among as many trials as usual.
+    pub fn enough(&self, counts: &[(&str, usize)]) {
+        if self.are_enough() { enough(counts) } else { print(counts) }
+    }
 }
 
 /// How often each of some cases came.
@@ -249,17 +274,22 @@ impl Tally {
         self.0.iter_mut().find(|c| c.0 == case).unwrap_or_else(|| panic!("{case} is no case")).1 += 1;
     }
 
-    /// Prints how often each case came, and fails where one came fewer than 50 times.
-    pub fn enough(&self) {
-        enough(&self.0.iter().map(|(case, count)| (&case[..], *count)).collect::<Vec<_>>());
+    /// Each case, and how often it came.
+    pub fn counts(&self) -> Vec<(&str, usize)> {
+        self.0.iter().map(|(case, count)| (&case[..], *count)).collect()
+    }
+}
+
+/// Prints how often each case came.
+fn print(counts: &[(&str, usize)]) {
+    for (name, count) in counts {
+        println!("  {name}: {count}");
     }
 }
 
 /// Prints how often each case came, and fails where one came fewer than 50 times.
 pub fn enough(counts: &[(&str, usize)]) {
-    for (name, count) in counts {
-        println!("  {name}: {count}");
-    }
+    print(counts);
     for (name, count) in counts {
         assert!(*count >= 50, "{name} came {count} times");
     }

@@ -1,7 +1,8 @@
 //! Months: random samples, readings and permits on random sheets, and faults in them, aimed at each refusal of document 02's P2.
 use crate::ledger::{self, in_range, Month, Place, Room, MOST};
+use crate::paper::{self, LIMITS, LONGEST_TRAIL};
 use crate::sheets::{self, Sheet};
-use crate::{damage, faults, paper, Random};
+use crate::{damage, faults, Random};
 
 /// A value in the range: at its ends, a simple number, one of any size, or any.
 pub fn value(r: &mut Random) -> f64 {
@@ -48,7 +49,7 @@ fn point(r: &mut Random, s: &Sheet, earlier: &[i32]) -> [i32; 2] {
 /// A month of so many samples on any sheet with any index words, its points around this accepted sheet; room and permits are
 /// enough, and every value that is read is in the range.
 pub fn any(r: &mut Random, around: &Sheet, sheet: &Sheet, index: &[u32], samples: usize) -> Month {
-    let zones = sheet.zones.min(1_100) as usize;
+    let zones = sheet.zones.min(LIMITS.zones + 100) as usize;
     let mut m = Month { sheet: sheet.clone(), index: index.to_vec(), ..Month::default() };
     let quiet = r.below(2) == 0;
     for _ in 0..samples {
@@ -224,7 +225,7 @@ pub fn damaged(r: &mut Random, m: &Month) -> Option<Month> {
     let mut bad = m.clone();
     let sample = r.below(m.kinds.len().max(1) as u64) as usize;
     let point = m.points.get(2 * sample..2 * sample + 2)?;
-    let found = paper::search(&m.sheet, &m.index, point[0], point[1], &[0; 10]);
+    let found = paper::search(&m.sheet, &m.index, point[0], point[1], &[0; LONGEST_TRAIL]);
     if found.out[0] == 0 {
         return None;
     }

@@ -1,7 +1,11 @@
-//! Document 02's P1 as written, by plain means: pages of frames judged and read, written, and placed.
+//! Document 02's P1 as written, by plain means: pages of frames judged and read, written, and placed; and P5's counts that a program
+//! with fixed buffers holds.
 
-use crate::paper::{self, Answer};
-use crate::sheets::Sheet;
+use crate::paper::{self, Answer, Limits, EARLIER, LIMITS};
+use crate::sheet::Sheet;
+
+/// What a program with fixed buffers holds: the counts before P5, and coordinates as they are now.
+pub const HELD: Limits = Limits { reach: LIMITS.reach, ..EARLIER };
 
 /// The most bytes of a page that the program reads.
 pub const LONGEST: usize = 65_536;
@@ -58,11 +62,6 @@ fn lines(page: &[u8]) -> (Vec<&[u8]>, &[u8]) {
     (list, rest)
 }
 
-/// The counts of a sheet are beyond document 01's limits.
-fn beyond_limits(vertices: usize, edges: usize, zones: u32) -> bool {
-    vertices > 1024 || edges > 2048 || zones > 1024 || zones == 0
-}
-
 /// The kind that a line has to be: head first, then exactly V vertices, m edges, any points.
 fn wanted(line: usize, vertices: usize, edges: usize) -> usize {
     match line {
@@ -73,12 +72,12 @@ fn wanted(line: usize, vertices: usize, edges: usize) -> usize {
     }
 }
 
-/// The refusals of a page in their order, of which the first is given: by line, and in one line 30, 31, then the head's 1; last 32,
-/// for the first line not there whole. Without a good head no later line is taken as out of order or missing.
-pub fn refusals(page: &[u8]) -> Vec<Refusal> {
+/// The refusals of a page under limits in their order, of which the first is given: by line, and in one line 30, 31, then the head's 1;
+/// last 32, for the first line not there whole. Without a good head no later line is taken as out of order or missing.
+pub fn refusals_under(l: &Limits, page: &[u8]) -> Vec<Refusal> {
     let (lines, rest) = lines(page);
     let head = lines.first().filter(|line| kind(line) == Some(0)).and_then(|line| numbers(line));
-    let beyond = head.as_ref().is_some_and(|h| beyond_limits(h[2] as usize, h[3] as usize, h[4]));
+    let beyond = head.as_ref().is_some_and(|h| l.exceeded(h[2] as usize, h[3] as usize, h[4]));
     let counts = head.filter(|_| !beyond).map(|h| (h[2] as usize, h[3] as usize));
     let (vertices, edges) = counts.unwrap_or((0, 0));
     let mut list = vec![];
@@ -93,9 +92,19 @@ pub fn refusals(page: &[u8]) -> Vec<Refusal> {
     list
 }
 
-/// Reads a page: its first refusal, or its sheet and its points.
+/// The refusals of a page to the reader.
+pub fn refusals(page: &[u8]) -> Vec<Refusal> {
+    refusals_under(&LIMITS, page)
+}
+
+/// Reads a page.
 pub fn read(page: &[u8]) -> Result<Page, Refusal> {
-    if let Some(&refusal) = refusals(page).first() {
+    read_under(&LIMITS, page)
+}
+
+/// Reads a page under limits: its first refusal, or its sheet and its points.
+fn read_under(l: &Limits, page: &[u8]) -> Result<Page, Refusal> {
+    if let Some(&refusal) = refusals_under(l, page).first() {
         return Err(refusal);
     }
     let Page { mut sheet, mut points } = Page::default();
@@ -147,7 +156,7 @@ pub fn write(page: &Page) -> Option<String> {
     let Page { sheet: s, points } = page;
     let (vertices, edges) = (s.vertices.len() / 2, s.edges.len() / 4);
     let whole = s.vertices.len() == 2 * vertices && s.edges.len() == 4 * edges && points.len().is_multiple_of(2);
-    if !whole || beyond_limits(vertices, edges, s.zones) {
+    if !whole || LIMITS.exceeded(vertices, edges, s.zones) {
         return None;
     }
     let pair = |p: &[i32]| [p[0] as u32, p[1] as u32];
@@ -177,21 +186,26 @@ fn answer_line(answer: Answer) -> String {
     }
 }
 
-/// What the program prints for a page: a line for each point, or for a page or a sheet that is refused one line alone.
+/// What the program prints for a page.
 pub fn place(page: &[u8]) -> String {
+    place_under(&HELD, page)
+}
+
+/// What a program that holds so much prints for a page: a line for each point, or for a page or a sheet that is refused one line alone.
+pub fn place_under(l: &Limits, page: &[u8]) -> String {
     let refused = |(number, item)| answer_line(Answer::Refused(number, item));
     if page.len() > LONGEST {
         return refused((34, 0));
     }
-    let Page { sheet, points } = match read(page) {
+    let Page { sheet, points } = match read_under(l, page) {
         Ok(page) => page,
         Err(refusal) => return refused(refusal),
     };
-    if let Some(refusal) = paper::judge(&sheet) {
+    if let Some(refusal) = paper::judge_under(l, &sheet) {
         return refused(refusal);
     }
     let line = paper::line(&sheet);
-    points.chunks(2).map(|point| answer_line(paper::read_accepted(&sheet, &line, point[0], point[1]))).collect()
+    points.chunks(2).map(|point| answer_line(paper::read_accepted(l, &sheet, &line, point[0], point[1]))).collect()
 }
 
 /// Places a page into lent text: refusal and number of bytes, and every lent byte afterwards.

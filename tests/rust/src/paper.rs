@@ -1,7 +1,37 @@
 //! Document 01 as written, by brute force: judging, opening, the plain reading, the published descent and the quick search.
 
-use crate::sheets::Sheet;
+use crate::sheet::Sheet;
 use std::cmp::Ordering;
+
+/// How much a sheet may hold, and how far a margin or a coordinate may lie from 0 ("What a sheet is").
+#[derive(Clone, Copy, Debug)]
+pub struct Limits {
+    pub vertices: usize,
+    pub edges: usize,
+    pub zones: u32,
+    pub reach: i32,
+}
+
+/// The limits as document 02's P5 has them.
+pub const LIMITS: Limits = Limits { vertices: 4_096, edges: 8_192, zones: 4_096, reach: 1_000_000_000 };
+
+/// The limits of document 01, before P5.
+pub const EARLIER: Limits = Limits { vertices: 1_024, edges: 2_048, zones: 1_024, reach: 1_000_000 };
+
+impl Limits {
+    /// Margins and coordinates lie in -reach to reach, both ends allowed ("What a sheet is").
+    pub fn in_range(&self, c: i32) -> bool {
+        (-self.reach..=self.reach).contains(&c)
+    }
+
+    /// Line 1 for the counts: one is beyond its limit, or n = 0.
+    pub fn exceeded(&self, vertices: usize, edges: usize, zones: u32) -> bool {
+        vertices > self.vertices || edges > self.edges || zones > self.zones || zones == 0
+    }
+}
+
+/// The places that a trail needs on a sheet with as many zones as there may be ("Index and descent").
+pub const LONGEST_TRAIL: usize = bits(LIMITS.zones - 1) as usize;
 
 /// An answer, its kinds kept apart ("Slips that look right"); a refusal has its number and its named item.
 #[derive(Clone, Copy, Debug, PartialEq, Eq)]
@@ -110,11 +140,6 @@ fn sound_edges(s: &Sheet) -> Vec<Edge> {
     (0..counts(s).1).filter(|&e| !fault_under_6(s, e) && !fault_under_7(s, e)).map(|e| edge(s, e)).collect()
 }
 
-/// Margins and coordinates lie in -1,000,000 to 1,000,000, both ends allowed ("What a sheet is").
-fn in_range(c: i32) -> bool {
-    (-1_000_000..=1_000_000).contains(&c)
-}
-
 /// The sign of (xe-xw)(y-yw) - (ye-yw)(x-xw), Greater where the point is above the edge ("The plain reading").
 fn side(d: &Edge, x: i32, y: i32) -> Ordering {
     let (x, y) = (i128::from(x), i128::from(y));
@@ -129,9 +154,9 @@ fn compare(d: &Edge, f: &Edge, half: i128) -> Ordering {
 }
 
 /// Line 4 for one vertex: out of range or outside the margins.
-fn fault_under_4(s: &Sheet, v: u32) -> bool {
+fn fault_under_4(l: &Limits, s: &Sheet, v: u32) -> bool {
     let (x, y) = vertex(s, v);
-    !in_range(x) || !in_range(y) || x < s.west || x > s.east
+    !l.in_range(x) || !l.in_range(y) || x < s.west || x > s.east
 }
 
 /// Line 6 for one edge: it names a vertex or a zone that isn't there.
@@ -212,13 +237,13 @@ fn lowest_circle(s: &Sheet, edges: &[Edge]) -> Option<u32> {
 }
 
 /// Lines 4 to 13 of the table, for tables that line 1 does not refuse: the named item where the line applies.
-fn rule_broken(s: &Sheet, number: u32) -> Option<u32> {
+fn rule_broken(l: &Limits, s: &Sheet, number: u32) -> Option<u32> {
     let (mut vertices, mut edges, mut zones, list) = (0..counts(s).0, 0..counts(s).1, 0..s.zones, sound_edges(s));
     let lacks_west = |v| vertex(s, v).0 > s.west && list.iter().all(|d| d.east != v);
     let lacks_east = |v| vertex(s, v).0 < s.east && list.iter().all(|d| d.west != v);
     let excepted = s.zones == 1 && counts(s) == (0, 0);
     match number {
-        4 => vertices.find(|&v| fault_under_4(s, v)),
+        4 => vertices.find(|&v| fault_under_4(l, s, v)),
         5 => vertices.find(|&v| (0..v).any(|u| vertex(s, u) == vertex(s, v))),
         6 => edges.find(|&e| fault_under_6(s, e)),
         7 => edges.find(|&e| !fault_under_6(s, e) && fault_under_7(s, e)),
@@ -231,28 +256,33 @@ fn rule_broken(s: &Sheet, number: u32) -> Option<u32> {
     }
 }
 
-/// A line of the table from 1 to 13, with this many index words lent: its number and named item where it applies.
-fn refusal(s: &Sheet, words: usize, number: u32) -> Option<(u32, u32)> {
+/// A line of the table from 1 to 13, under limits and with this many index words lent: its number and named item where it applies.
+fn refusal(l: &Limits, s: &Sheet, words: usize, number: u32) -> Option<(u32, u32)> {
     let (v, m, n) = (s.vertices.len() / 2, s.edges.len() / 4, s.zones);
     let whole = s.vertices.len().is_multiple_of(2) && s.edges.len().is_multiple_of(4);
     let item = match number {
-        1 => (!whole || v > 1024 || m > 2048 || n > 1024 || n == 0).then_some(0),
-        2 => (!in_range(s.west) || !in_range(s.east) || s.west >= s.east).then_some(0),
+        1 => (!whole || l.exceeded(v, m, n)).then_some(0),
+        2 => (!l.in_range(s.west) || !l.in_range(s.east) || s.west >= s.east).then_some(0),
         3 => ((words as u64) < 3 * u64::from(n) + m as u64 + 1).then_some(0),
-        _ => rule_broken(s, number),
+        _ => rule_broken(l, s, number),
     };
     item.map(|item| (number, item))
 }
 
+/// Refusals 1, 2 and 4 to 13 under limits, the first that applies: its number and the named item.
+pub fn judge_under(l: &Limits, s: &Sheet) -> Option<(u32, u32)> {
+    (1..=13).filter(|&number| number != 3).find_map(|number| refusal(l, s, 0, number))
+}
+
 /// Refusals 1, 2 and 4 to 13, the first that applies: its number and the named item.
 pub fn judge(s: &Sheet) -> Option<(u32, u32)> {
-    (1..=13).filter(|&number| number != 3).find_map(|number| refusal(s, 0, number))
+    judge_under(&LIMITS, s)
 }
 
 /// Every refusal among 1 to 13 whose own line applies where it can be evaluated, with this many index words lent.
 pub fn faults(s: &Sheet, words: usize) -> Vec<u32> {
-    let last = if refusal(s, words, 1).is_some() { 3 } else { 13 };
-    (1..=last).filter(|&number| refusal(s, words, number).is_some()).collect()
+    let last = if refusal(&LIMITS, s, words, 1).is_some() { 3 } else { 13 };
+    (1..=last).filter(|&number| refusal(&LIMITS, s, words, number).is_some()).collect()
 }
 
 /// The line of rule 7: at each place the lowest zone not placed yet, all of whose zones directly below are placed.
@@ -297,9 +327,9 @@ pub fn index(s: &Sheet) -> Vec<u32> {
     [places, line, starts, entries].concat()
 }
 
-/// Opening: refusals 1 to 13 in order, else the index in the first 3n + m + 1 lent words and nothing else changed.
-pub fn open(s: &Sheet, lent: &[u32]) -> ([u32; 2], Vec<u32>) {
-    if let Some((number, item)) = (1..=13).find_map(|number| refusal(s, lent.len(), number)) {
+/// Opening under limits: refusals 1 to 13 in order, else the index in the first 3n + m + 1 lent words and nothing else changed.
+pub fn open_under(l: &Limits, s: &Sheet, lent: &[u32]) -> ([u32; 2], Vec<u32>) {
+    if let Some((number, item)) = (1..=13).find_map(|number| refusal(l, s, lent.len(), number)) {
         return ([number, item], lent.to_vec());
     }
     let index = index(s);
@@ -307,9 +337,14 @@ pub fn open(s: &Sheet, lent: &[u32]) -> ([u32; 2], Vec<u32>) {
     ([0, 0], [index, rest].concat())
 }
 
+/// Opening: every lent word afterwards, and the refusal where one is given.
+pub fn open(s: &Sheet, lent: &[u32]) -> ([u32; 2], Vec<u32>) {
+    open_under(&LIMITS, s, lent)
+}
+
 /// Refusal 20: point with x < W, x > E, or y out of range.
-fn off_sheet(s: &Sheet, x: i32, y: i32) -> bool {
-    x < s.west || x > s.east || !in_range(y)
+fn off_sheet(l: &Limits, s: &Sheet, x: i32, y: i32) -> bool {
+    x < s.west || x > s.east || !l.in_range(y)
 }
 
 /// Western x <= x < eastern x, and for x = E eastern x = E ("The plain reading").
@@ -338,17 +373,23 @@ fn overhead((edges, half): &(Vec<Edge>, i128), line: &[u32], x: i32, y: i32) -> 
     over.min_by(|d, f| compare(d, f, *half)).map_or(line[line.len() - 1], |d| d.below)
 }
 
-/// The plain reading: refusals 1, 2, 4 to 13, 20; else a vertex if the point is one, else an edge if it lies on one, else a zone.
-pub fn read(s: &Sheet, x: i32, y: i32) -> Answer {
-    match judge(s) {
+/// The plain reading under limits: refusals 1, 2, 4 to 13, 20; else a vertex if the point is one, else an edge if it lies on one, else a
+/// zone.
+pub fn read_under(l: &Limits, s: &Sheet, x: i32, y: i32) -> Answer {
+    match judge_under(l, s) {
         Some((number, item)) => Answer::Refused(number, item),
-        None => read_accepted(s, &line(s), x, y),
+        None => read_accepted(l, s, &line(s), x, y),
     }
 }
 
-/// The plain reading on an accepted sheet with its line of rule 7: refusal 20, else the vertex, the edge or the zone.
-pub fn read_accepted(s: &Sheet, line: &[u32], x: i32, y: i32) -> Answer {
-    if off_sheet(s, x, y) { Answer::Refused(20, 0) } else { things(s, line, x, y)[0] }
+/// The plain reading.
+pub fn read(s: &Sheet, x: i32, y: i32) -> Answer {
+    read_under(&LIMITS, s, x, y)
+}
+
+/// The plain reading on a sheet accepted under limits with its line of rule 7: refusal 20, else the vertex, the edge or the zone.
+pub fn read_accepted(l: &Limits, s: &Sheet, line: &[u32], x: i32, y: i32) -> Answer {
+    if off_sheet(l, s, x, y) { Answer::Refused(20, 0) } else { things(s, line, x, y)[0] }
 }
 
 /// The zones of every reading of a point on no vertex or edge, eastern and, where W < x < E, western (second demand).
@@ -371,7 +412,7 @@ pub fn things(s: &Sheet, line: &[u32], x: i32, y: i32) -> Vec<Answer> {
 }
 
 /// The bit length of k; bits(0) = 0 ("What a sheet is").
-pub fn bits(k: u32) -> u32 {
+pub const fn bits(k: u32) -> u32 {
     if k == 0 { 0 } else { 1 + bits(k / 2) }
 }
 
@@ -395,22 +436,22 @@ fn unless(fault: bool, cause: Cause) -> Result<(), Cause> {
 }
 
 /// A probed entry read as an edge, its record and its vertices judged under 6, 4 and 7 (refusal 22).
-fn probed_edge(s: &Sheet, e: u32) -> Result<Edge, Cause> {
+fn probed_edge(l: &Limits, s: &Sheet, e: u32) -> Result<Edge, Cause> {
     unless(e >= counts(s).1, Cause::NoEdge)?;
     unless(fault_under_6(s, e), Cause::FaultUnder6)?;
     let d = edge(s, e);
-    unless(fault_under_4(s, d.west) || fault_under_4(s, d.east), Cause::FaultUnder4)?;
+    unless(fault_under_4(l, s, d.west) || fault_under_4(l, s, d.east), Cause::FaultUnder4)?;
     unless(fault_under_7(s, e), Cause::FaultUnder7)?;
     Ok(d)
 }
 
 /// The covering edge of a chain, every look at the middle being one probe ("Index and descent").
-fn covering_edge(s: &Sheet, chain: &[u32], x: i32, probes: &mut u32) -> Result<Edge, Cause> {
+fn covering_edge(l: &Limits, s: &Sheet, chain: &[u32], x: i32, probes: &mut u32) -> Result<Edge, Cause> {
     let (mut lo, mut hi) = (0, chain.len());
     while lo < hi {
         let middle = (lo + hi) / 2;
         *probes += 1;
-        match probed_edge(s, chain[middle])? {
+        match probed_edge(l, s, chain[middle])? {
             d if i128::from(x) < d.w.0 => hi = middle,
             d if !covers(s, &d, x) => lo = middle + 1,
             d => return Ok(d),
@@ -420,7 +461,7 @@ fn covering_edge(s: &Sheet, chain: &[u32], x: i32, probes: &mut u32) -> Result<E
 }
 
 /// The descent over chains of entries, places of zones and zones at places, refusal 22 judged as it goes ("Index and descent").
-fn descent<C>(s: &Sheet, chain: C, places: &[u32], zones: &[u32], (x, y): (i32, i32)) -> Result<Found, Cause>
+fn descent<C>(l: &Limits, s: &Sheet, chain: C, places: &[u32], zones: &[u32], (x, y): (i32, i32)) -> Result<Found, Cause>
 where
     C: Fn(u32) -> Result<Vec<u32>, Cause>,
 {
@@ -432,7 +473,7 @@ where
             k = if k > j { k - half } else { k + half };
             continue;
         }
-        let d = covering_edge(s, &chain(k)?, x, &mut probes)?;
+        let d = covering_edge(l, s, &chain(k)?, x, &mut probes)?;
         trail.push(d.number);
         let (below, above) = (places[d.below as usize], places[d.above as usize]);
         unless(below >= s.zones || above >= s.zones, Cause::PlacePastZones)?;
@@ -453,7 +494,7 @@ where
 pub fn published(s: &Sheet, line: &[u32], x: i32, y: i32) -> Found {
     let (edges, places) = (sound_edges(s), places(line));
     let list = |k| Ok(chain(&edges, &places, k).iter().map(|d| d.number).collect());
-    descent(s, list, &places, line, (x, y)).expect("an accepted sheet")
+    descent(&LIMITS, s, list, &places, line, (x, y)).expect("an accepted sheet")
 }
 
 /// The entries of chain k by the index words, both its starts judged against m (refusal 22).
@@ -465,17 +506,17 @@ fn lent_chain(s: &Sheet, index: &[u32], k: u32) -> Result<Vec<u32>, Cause> {
     Ok(entries[start as usize..next as usize].to_vec())
 }
 
-/// The quick search: refusals 1, 2, 3, 20, 21 and 22, else the answer, both counts and exactly the counted trail entries.
-pub fn search(s: &Sheet, index: &[u32], x: i32, y: i32, trail: &[u32]) -> Searched {
+/// The quick search under limits: refusals 1, 2, 3, 20, 21 and 22, else the answer, both counts and exactly the counted trail entries.
+pub fn search_under(l: &Limits, s: &Sheet, index: &[u32], x: i32, y: i32, trail: &[u32]) -> Searched {
     let refused = |number, cause| Searched { out: [0, number, 0, 0, 0], trail: trail.to_vec(), cause };
-    let tables = (1..=3).find_map(|number| refusal(s, index.len(), number)).map(|(number, _)| number);
-    let point = || off_sheet(s, x, y).then_some(20);
+    let tables = (1..=3).find_map(|number| refusal(l, s, index.len(), number)).map(|(number, _)| number);
+    let point = || off_sheet(l, s, x, y).then_some(20);
     let short = || (trail.len() < bits(s.zones - 1) as usize).then_some(21);
     if let Some(number) = tables.or_else(point).or_else(short) {
         return refused(number, None);
     }
     let n = s.zones as usize;
-    match descent(s, |k| lent_chain(s, index, k), &index[..n], &index[n..2 * n], (x, y)) {
+    match descent(l, s, |k| lent_chain(s, index, k), &index[..n], &index[n..2 * n], (x, y)) {
         Err(cause) => refused(22, Some(cause)),
         Ok(Found { answer, trail: examined, probes }) => {
             let ([kind, number, item], count) = (answer.values(), examined.len());
@@ -483,4 +524,9 @@ pub fn search(s: &Sheet, index: &[u32], x: i32, y: i32, trail: &[u32]) -> Search
             Searched { out: [kind, number, item, count as u32, probes], trail: words, cause: None }
         }
     }
+}
+
+/// The quick search.
+pub fn search(s: &Sheet, index: &[u32], x: i32, y: i32, trail: &[u32]) -> Searched {
+    search_under(&LIMITS, s, index, x, y, trail)
 }

@@ -1,35 +1,8 @@
-//! Sheets as plain tables, generators of accepted ones, and of points on them and near.
+//! Generators of accepted sheets, and of points on them and near.
 use crate::drawings::{self, columned, shuffled, triangulated, zones, Drawing, Frame};
+use crate::paper::{EARLIER, LIMITS};
+pub use crate::sheet::Sheet;
 use crate::Random;
-
-/// The margins, the number of zones and the two tables, as they are lent.
-#[derive(Clone, Debug, Default, PartialEq, Eq)]
-pub struct Sheet {
-    pub west: i32,
-    pub east: i32,
-    pub zones: u32,
-    pub vertices: Vec<i32>,
-    pub edges: Vec<u32>,
-}
-
-impl Sheet {
-    /// The words that an index needs: 3n + m + 1.
-    pub fn need(&self) -> usize {
-        3 * self.zones as usize + self.edges.len() / 4 + 1
-    }
-
-    /// How many vertices are on the abscissa x.
-    pub fn vertices_on(&self, x: i32) -> usize {
-        self.vertices.chunks_exact(2).filter(|v| v[0] == x).count()
-    }
-
-    /// The pieces into which the edges of an accepted sheet part the strip: one, and one for each edge, less one for each
-    /// vertex between the margins.
-    pub fn pieces(&self) -> usize {
-        let (vertices, edges) = (self.vertices.len() / 2, self.edges.len() / 4);
-        edges + 1 + self.vertices_on(self.west) + self.vertices_on(self.east) - vertices
-    }
-}
 
 /// The sheet of a drawing with a zone for each face; vertices, edges and zones are numbered at random.
 pub fn numbered(r: &mut Random, d: &Drawing, zone: &[usize]) -> Sheet {
@@ -51,10 +24,16 @@ pub fn numbered(r: &mut Random, d: &Drawing, zone: &[usize]) -> Sheet {
     s
 }
 
-/// A triangulation with edges cut in two: so many points (from about `surplus` to twice `surplus` + 6), and so many more edges.
-fn triangles(r: &mut Random, vertices: usize, surplus: usize) -> Drawing {
+/// How far from 0 something may lie: as far as the limits allow, or as far as they did before P5.
+fn reach(r: &mut Random) -> i64 {
+    r.one(&[EARLIER.reach, LIMITS.reach]).into()
+}
+
+/// A triangulation with edges cut in two, no further than so far from 0: so many points (from about `surplus` to twice `surplus` + 6),
+/// and so many more edges.
+fn triangles(r: &mut Random, reach: i64, vertices: usize, surplus: usize) -> Drawing {
     loop {
-        let Some(mut d) = triangulated(r, surplus) else { continue };
+        let Some(mut d) = triangulated(r, reach, surplus) else { continue };
         d.cut(r, vertices);
         if d.points.len() == vertices {
             return d;
@@ -64,18 +43,18 @@ fn triangles(r: &mut Random, vertices: usize, surplus: usize) -> Drawing {
 
 /// Where a random drawing may lie: one unit wide, at the limits of the range, or small.
 fn frame(r: &mut Random) -> Frame {
-    const FAR: i64 = 1_000_000;
+    let (far, tall) = (reach(r), reach(r));
     let (west, east) = match r.below(8) {
-        0 => r.one(&[(-FAR, 1 - FAR), (FAR - 1, FAR), (0, 1), (-1, 0)]),
-        1 => (-FAR, FAR),
-        2 => r.one(&[(-FAR, 9 - FAR), (FAR - 9, FAR)]),
-        3 => (r.between(-FAR, 0), r.between(1, FAR)),
+        0 => r.one(&[(-far, 1 - far), (far - 1, far), (0, 1), (-1, 0)]),
+        1 => (-far, far),
+        2 => r.one(&[(-far, 9 - far), (far - 9, far)]),
+        3 => (r.between(-far, 0), r.between(1, far)),
         _ => (r.between(-12, 0), r.between(1, 12)),
     };
     let (low, high) = match r.below(6) {
-        0 => (-FAR, FAR),
-        1 => r.one(&[(-FAR, 20 - FAR), (FAR - 20, FAR)]),
-        2 => (r.between(-FAR, 0), r.between(1, FAR)),
+        0 => (-tall, tall),
+        1 => r.one(&[(-tall, 20 - tall), (tall - 20, tall)]),
+        2 => (r.between(-tall, 0), r.between(1, tall)),
         _ => (r.between(-20, 0), r.between(1, 20)),
     };
     Frame { west, east, low, high }
@@ -85,9 +64,9 @@ fn frame(r: &mut Random) -> Frame {
 pub fn drawn(r: &mut Random) -> (Drawing, Vec<usize>) {
     let d = match r.below(8) {
         0 => {
-            let surplus = r.below(24) as usize;
+            let (reach, surplus) = (reach(r), r.below(24) as usize);
             let vertices = surplus + 3 + r.below(surplus as u64 + 1) as usize;
-            triangles(r, vertices, surplus)
+            triangles(r, reach, vertices, surplus)
         }
         _ => {
             let (frame, wide, tall) = (frame(r), 2 + r.below(10) as usize, 1 + r.below(12));
@@ -108,26 +87,40 @@ pub fn any(r: &mut Random) -> Sheet {
     numbered(r, &d, &zone)
 }
 
-/// A random accepted sheet so small that all its whole points can be gone through.
+/// A random accepted sheet so small that all its whole points can be gone through, often at a limit of the range, where one unit is left
+/// above and below it.
 pub fn tiny(r: &mut Random) -> Sheet {
-    let frame = Frame { west: r.between(-5, 0), east: r.between(1, 5), low: r.between(-6, -1), high: r.between(1, 6) };
+    let far = i64::from(LIMITS.reach);
+    let (x, y) = (r.one(&[0, 0, 5 - far, far - 5]), r.one(&[0, 0, 7 - far, far - 7]));
+    let frame = Frame { west: x - r.between(0, 5), east: x + r.between(1, 5), low: y - r.between(1, 6), high: y + r.between(1, 6) };
     let (wide, tall, tries) = (2 + r.below(9) as usize, 1 + r.below(8), r.one(&[0, 40, 200]));
     let d = columned(r, frame, wide, tall);
     let zone = zones(r, &d, 2, tries);
     numbered(r, &d, &zone)
 }
 
-/// An accepted sheet with so many vertices (from about `surplus` to twice `surplus` + 6), so many more edges than vertices, and
-/// at most so many zones, in several pieces where there are more pieces than that.
-pub fn accepted(r: &mut Random, vertices: usize, surplus: usize, zones: usize) -> Sheet {
-    let d = triangles(r, vertices, surplus);
+/// An accepted sheet no further than so far from 0, with so many vertices (from about `surplus` to twice `surplus` + 6), so many more
+/// edges than vertices, and at most so many zones, in several pieces where there are more pieces than that.
+pub fn accepted(r: &mut Random, reach: i32, vertices: usize, surplus: usize, zones: usize) -> Sheet {
+    let d = triangles(r, reach.into(), vertices, surplus);
     let zone = drawings::zones(r, &d, zones, 10_000);
     numbered(r, &d, &zone)
 }
 
-/// A sheet at every limit: 1,024 vertices, 2,048 edges, 1,024 zones.
+/// An accepted sheet with so many vertices, twice as many edges and at most as many zones, more than half as wide and as tall as can be.
+pub fn spread(r: &mut Random, reach: i32, vertices: usize) -> Sheet {
+    loop {
+        let s = accepted(r, reach, vertices, vertices, vertices);
+        let heights = || s.vertices.iter().skip(1).step_by(2);
+        if s.east - s.west > reach && heights().max().expect("a vertex") - heights().min().expect("a vertex") > reach {
+            return s;
+        }
+    }
+}
+
+/// A sheet at every limit of the counts: 4,096 vertices, 8,192 edges, 4,096 zones.
 pub fn largest(r: &mut Random) -> Sheet {
-    accepted(r, 1024, 1024, 1024)
+    accepted(r, LIMITS.reach, LIMITS.vertices, LIMITS.edges - LIMITS.vertices, LIMITS.zones as usize)
 }
 
 /// A sheet of so many columns with so many vertices each, some zones in several pieces where that can be.
@@ -137,10 +130,15 @@ pub fn woven(r: &mut Random, wide: usize, tall: usize) -> Sheet {
     numbered(r, &d, &zone)
 }
 
-/// One vertex on W with an edge to each of 1,023 vertices on E: the largest fan that the limits allow.
-pub fn fan() -> Sheet {
-    let mut s = Sheet { west: 0, east: 1000, zones: 1024, vertices: vec![0, 0], edges: vec![] };
-    for k in 0..1023u32 {
+/// The largest fan that the limits allow: 4,095 edges.
+pub fn largest_fan() -> Sheet {
+    fan(LIMITS.zones)
+}
+
+/// One vertex on W with edges to vertices on E, one fewer than so many zones.
+pub fn fan(zones: u32) -> Sheet {
+    let mut s = Sheet { west: 0, east: 1000, zones, vertices: vec![0, 0], edges: vec![] };
+    for k in 0..zones - 1 {
         s.vertices.extend_from_slice(&[1000, 3 * k as i32]);
         s.edges.extend_from_slice(&[0, k + 1, k + 1, k]);
     }
@@ -187,20 +185,22 @@ pub fn circling(r: &mut Random) -> Sheet {
     two_fans(&between(western), &between(eastern))
 }
 
-/// As many zones as the vertices allow, each above the one before it, and a circle of the two with the highest numbers above them all but
-/// one: from every zone below, the look for circles goes through every zone above it.
-pub fn circle_at_the_top() -> Sheet {
-    at_the_top(&[0, 1_018, 1_017, 1_016])
+/// As many zones as so many vertices allow, each above the one before it, and a circle of the two with the highest numbers above them all
+/// but one: from every zone below, the look for circles goes through every zone above it.
+pub fn circle_at_the_top(vertices: u32) -> Sheet {
+    let n = vertices - 5;
+    at_the_top(n, &[0, n - 1, n - 2, n - 3])
 }
 
 /// The same edges with the two zones of the circle exchanged in the eastern fan, so that there is none.
-pub fn circle_undone() -> Sheet {
-    at_the_top(&[0, 1_017, 1_018, 1_016])
+pub fn circle_undone(vertices: u32) -> Sheet {
+    let n = vertices - 5;
+    at_the_top(n, &[0, n - 2, n - 1, n - 3])
 }
 
-/// The zones 0 to 1,015, then 1,017, 1,018 and 1,016 from bottom to top in a western fan, and these in an eastern one.
-fn at_the_top(eastern: &[u32]) -> Sheet {
-    let western: Vec<u32> = (0..1_016).chain([1_017, 1_018, 1_016]).collect();
+/// The zones below n from bottom to top in a western fan, but n - 3 above the last two, and these in an eastern one.
+fn at_the_top(n: u32, eastern: &[u32]) -> Sheet {
+    let western: Vec<u32> = (0..n - 3).chain([n - 2, n - 1, n - 3]).collect();
     two_fans(&western, eastern)
 }
 
@@ -245,15 +245,15 @@ pub fn point(r: &mut Random, s: &Sheet) -> (i32, i32) {
     let vertices = s.vertices.chunks_exact(2).len() as u64;
     let v = if vertices > 0 { 2 * r.below(vertices) as usize } else { 0 };
     let (x, y) = if vertices > 0 { (s.vertices[v] as i64, s.vertices[v + 1] as i64) } else { (west, 0) };
-    let anywhere = r.between(west.min(east), west.max(east));
+    let (anywhere, far) = (r.between(west.min(east), west.max(east)), reach(r));
     let (x, y) = match r.below(8) {
         0 => (x, y),
         1 | 2 => (x + r.between(-1, 1), y + r.between(-1, 1)),
         3 if !s.edges.is_empty() => on_edge(r, s),
         4 => (r.one(&[west, east]), y + r.between(-1, 1)),
-        5 => (x, r.between(-1_000_000, 1_000_000)),
+        5 => (x, r.between(-far, far)),
         6 => (anywhere, y + r.between(-2, 2)),
-        _ => (anywhere, if r.below(3) > 0 { r.one(&[-1_000_000, 1_000_000]) } else { r.between(-1_000_000, 1_000_000) }),
+        _ => (anywhere, if r.below(3) > 0 { r.one(&[-far, far]) } else { r.between(-far, far) }),
     };
     (x.clamp(i32::MIN as i64, i32::MAX as i64) as i32, y.clamp(i32::MIN as i64, i32::MAX as i64) as i32)
 }
@@ -261,7 +261,7 @@ pub fn point(r: &mut Random, s: &Sheet) -> (i32, i32) {
 /// A random point of an accepted sheet, moved to where the calls answer it.
 pub fn inside(r: &mut Random, s: &Sheet) -> (i32, i32) {
     let (x, y) = point(r, s);
-    (x.clamp(s.west, s.east), y.clamp(-1_000_000, 1_000_000))
+    (x.clamp(s.west, s.east), y.clamp(-LIMITS.reach, LIMITS.reach))
 }
 
 /// A random point off the sheet: beside a margin, or past the heights allowed.
@@ -270,6 +270,6 @@ pub fn outside(r: &mut Random, s: &Sheet) -> (i32, i32) {
     match r.below(3) {
         0 => (r.one(&[s.west.saturating_sub(1), i32::MIN]), y),
         1 => (r.one(&[s.east.saturating_add(1), i32::MAX]), y),
-        _ => (x, r.one(&[-1_000_001, 1_000_001, i32::MIN, i32::MAX])),
+        _ => (x, r.one(&[-LIMITS.reach - 1, LIMITS.reach + 1, i32::MIN, i32::MAX])),
     }
 }

@@ -1,5 +1,6 @@
 //! Texts: random sheets with points as they stand on pages, and damage to the bytes, the lines, the head and the end of a page.
-use crate::pages::{self, frame, Page};
+use crate::pages::{self, frame, Page, HELD};
+use crate::paper::{Limits, EARLIER, LIMITS};
 use crate::sheets::{self, Sheet};
 use crate::{faults, Random};
 
@@ -8,9 +9,10 @@ const FAULTS: [u32; 12] = [0, 2, 4, 5, 6, 7, 8, 9, 10, 11, 12, 13];
 
 /// A word of a table: small, at a limit of the range or of its type, or any.
 fn word(r: &mut Random) -> i32 {
-    match r.below(3) {
-        0 => r.between(-20, 20) as i32,
-        1 => r.one(&[-1_000_000, 1_000_000, -1_000_001, 1_000_001, i32::MIN, i32::MAX, -1, 0]),
+    match r.below(6) {
+        0 | 1 => r.between(-20, 20) as i32,
+        2 => r.one(&[1, -1]) * (r.one(&[LIMITS.reach, EARLIER.reach]) + r.one(&[0, 1])),
+        3 => r.one(&[i32::MIN, i32::MAX, -1, 0]),
         _ => r.next() as i32,
     }
 }
@@ -32,7 +34,8 @@ pub fn points(r: &mut Random, s: &Sheet, below: u64) -> Vec<i32> {
 /// Tables of any words, a few records each, with any margins and a number of zones within its limits.
 fn any_words(r: &mut Random) -> Page {
     let [vertices, edges, points] = [2, 4, 2].map(|size| (0..size * r.below(6)).map(|_| word(r)).collect::<Vec<i32>>());
-    let zones = if r.below(2) == 0 { r.one(&[1, 2, 1_023, 1_024]) } else { 1 + r.below(1_024) as u32 };
+    let limit = r.one(&[HELD.zones, LIMITS.zones]);
+    let zones = if r.below(2) == 0 { r.one(&[1, 2, limit - 1, limit]) } else { 1 + r.below(limit.into()) as u32 };
     let edges = edges.iter().map(|&word| word as u32).collect();
     Page { sheet: Sheet { west: word(r), east: word(r), zones, vertices, edges }, points }
 }
@@ -55,7 +58,7 @@ pub fn any(r: &mut Random) -> Page {
 type Damage = fn(&mut Random, &mut Vec<u8>, &str);
 
 /// What can be wrong with a page.
-pub const DAMAGES: [(&str, Damage); 20] = [
+pub const DAMAGES: [(&str, Damage); 21] = [
     ("a digit in upper case", damage_lines),
     ("a byte that is no digit", damage_lines),
     ("a carriage return", damage_lines),
@@ -73,6 +76,7 @@ pub const DAMAGES: [(&str, Damage); 20] = [
     ("a page cut", damage_end),
     ("bytes after the last line", damage_end),
     ("counts beyond the limits", damage_head),
+    ("counts beyond what a program holds", damage_head),
     ("counts of other tables", damage_head),
     ("some bytes at random", damage_any),
     ("all bytes at random", damage_any),
@@ -150,13 +154,16 @@ fn damage_end(r: &mut Random, page: &mut Vec<u8>, what: &str) {
 
 /// Changes a count in the head of a page: V, m or n.
 fn damage_head(r: &mut Random, page: &mut Vec<u8>, what: &str) {
-    let (at, limit) = r.one(&[(18, 1_024), (26, 2_048), (34, 1_024)]);
+    let counts = |l: Limits| [l.vertices as u32, l.edges as u32, l.zones];
+    let which = r.below(3) as usize;
+    let (at, limit, held) = (18 + 8 * which, counts(LIMITS)[which], counts(HELD)[which]);
     let count = page.get(at..at + 8).and_then(|digits| u32::from_str_radix(std::str::from_utf8(digits).ok()?, 16).ok());
     let Some(count) = count else { return };
     let other = match what {
-        "counts beyond the limits" if at == 34 => r.one(&[0, 1_025, 1 << 16, 1 << 31, u32::MAX]),
+        "counts beyond the limits" if at == 34 => r.one(&[0, limit + 1, 1 << 16, 1 << 31, u32::MAX]),
         "counts beyond the limits" => r.one(&[limit + 1, limit + 2, 1 << 16, 1 << 31, u32::MAX]),
-        _ => r.one(&[count.saturating_sub(1), count.saturating_add(1), limit, 0]),
+        "counts beyond what a program holds" => r.one(&[held + 1, held + 2, limit - 1, limit]),
+        _ => r.one(&[count.saturating_sub(1), count.saturating_add(1), held, limit, 0]),
     };
     page.splice(at..at + 8, format!("{other:08x}").bytes());
 }

@@ -3,7 +3,8 @@ use std::{ptr, thread};
 use thawweasel_tests::exported::{tw_month, tw_open, tw_place_page, tw_read, tw_read_page, tw_search, tw_write_page};
 use thawweasel_tests::ledger::{self, MOST};
 use thawweasel_tests::pages::{self, Lent, Page, ROOM};
-use thawweasel_tests::{lent, month, months, open, place_page, read, read_page, search, sheets, sheets::lens, write_page, Random};
+use thawweasel_tests::{lent, month, months, open, place_page, read, read_page, search, write_page, Random};
+use thawweasel_tests::{sheets, sheets::lens, sheets::Sheet};
 
 /// What a word holds before it is lent.
 const LENT: u32 = 0xA5A5_A5A5;
@@ -132,55 +133,88 @@ fn so_many_words_are_written_for_a_month_and_no_more() {
     }
 }
 
+/// Makes calls on a thread with so many KiB of stack.
+fn on_a_stack_of(kib: usize, calls: impl FnOnce() + Send + 'static) {
+    thread::Builder::new().stack_size(kib << 10).spawn(calls).unwrap().join().unwrap();
+}
+
+/// Opens a sheet, reads a point of it and searches for it.
+fn place_a_point(s: &Sheet) {
+    let (mut index, mut trail) = (vec![0; s.need()], [0; 12]);
+    assert_eq!(open(s, &mut index), [0, 0]);
+    let [kind, number, item] = read(s, s.west, 0);
+    assert_eq!(search(s, &index, s.west, 0, &mut trail)[..3], [kind, number, item]);
+}
+
 #[test]
-fn a_stack_of_128_kib_is_enough() {
+fn a_stack_of_8_mib_is_enough_for_the_largest_sheet() {
+    let mut r = Random::new("large stack", 26);
+    let s = sheets::largest(&mut r);
+    assert_eq!((s.vertices.len() / 2, s.edges.len() / 4, s.zones), (4_096, 8_192, 4_096));
+    on_a_stack_of(8 << 10, move || place_a_point(&s));
+}
+
+#[test]
+fn a_stack_of_512_kib_is_enough() {
     let mut r = Random::new("stack", 20);
-    for s in [sheets::largest(&mut r), sheets::fan()] {
-        let calls = move || {
-            let (mut index, mut trail) = (vec![0; s.need()], [0; 10]);
-            assert_eq!(open(&s, &mut index), [0, 0]);
-            let [kind, number, item] = read(&s, s.west, 0);
-            assert_eq!(search(&s, &index, s.west, 0, &mut trail)[..3], [kind, number, item]);
-        };
-        thread::Builder::new().stack_size(128 << 10).spawn(calls).unwrap().join().unwrap();
+    for s in [sheets::largest(&mut r), sheets::largest_fan()] {
+        on_a_stack_of(512, move || place_a_point(&s));
     }
-    let circle = || {
-        let s = sheets::circle_at_the_top();
-        assert_eq!(open(&s, &mut vec![0; s.need()]), [13, 1_017]);
-        assert_eq!(read(&s, s.west, 0), [0, 13, 1_017]);
-    };
-    thread::Builder::new().stack_size(128 << 10).spawn(circle).unwrap().join().unwrap();
+    on_a_stack_of(512, || {
+        let s = sheets::circle_at_the_top(4_096);
+        assert_eq!(open(&s, &mut vec![0; s.need()]), [13, 4_089]);
+        assert_eq!(read(&s, s.west, 0), [0, 13, 4_089]);
+    });
 }
 
 #[test]
-fn a_stack_of_256_kib_is_enough_for_a_page() {
+fn a_stack_of_640_kib_is_enough_to_place_a_page() {
     let mut r = Random::new("stack for a page", 21);
-    for sheet in [sheets::accepted(&mut r, 850, 430, 1024), sheets::fan()] {
-        let page = Page { points: [sheet.west, 0].repeat(200), sheet };
-        let calls = move || {
+    for sheet in [sheets::accepted(&mut r, 1_000_000_000, 850, 430, 1_024), sheets::fan(1_024), sheets::circle_at_the_top(700)] {
+        let page = pages::write(&Page { points: [sheet.west, 0].repeat(200), sheet }).expect("a page that can be written");
+        let printed = pages::place(page.as_bytes());
+        on_a_stack_of(640, move || {
             let mut text = vec![0; ROOM];
-            let [refusal, length] = write_page(&page, &mut text).map(|word| word as usize);
-            let mut lent = Lent { vertices: vec![0; 2048], edges: vec![0; 8192], points: vec![0; 400] };
-            assert_eq!((refusal, read_page(&text[..length], &mut lent)[0]), (0, 0));
-            let written = text[..length].to_vec();
-            assert_eq!(place_page(&written, &mut text)[0], 0);
-            assert!(!text.starts_with(b"refused"));
-        };
-        thread::Builder::new().stack_size(256 << 10).spawn(calls).unwrap().join().unwrap();
+            assert_eq!(place_page(page.as_bytes(), &mut text), [0, printed.len() as u64]);
+            assert!(text.starts_with(printed.as_bytes()));
+        });
     }
 }
 
 #[test]
-fn a_stack_of_256_kib_is_enough_for_a_month() {
+fn a_stack_of_64_kib_is_enough_to_search() {
+    let mut r = Random::new("stack to search", 27);
+    for s in [sheets::largest(&mut r), sheets::largest_fan()] {
+        let mut index = vec![0; s.need()];
+        assert_eq!(open(&s, &mut index), [0, 0]);
+        let points: Vec<(i32, i32)> = (0..100).map(|_| sheets::inside(&mut r, &s)).collect();
+        on_a_stack_of(64, move || points.iter().for_each(|&(x, y)| assert_ne!(search(&s, &index, x, y, &mut [0; 12])[0], 0)));
+    }
+}
+
+#[test]
+fn a_stack_of_64_kib_is_enough_to_write_and_read_a_page() {
+    let mut r = Random::new("stack for long pages", 28);
+    for sheet in [sheets::largest(&mut r), sheets::largest_fan()] {
+        let page = Page { points: [sheet.west, 0].repeat(200), sheet };
+        on_a_stack_of(64, move || {
+            let (mut text, mut lent) = (vec![0; 400_000], Lent { vertices: vec![0; 8_192], edges: vec![0; 32_768], points: vec![0; 400] });
+            let [refusal, length] = write_page(&page, &mut text).map(|word| word as usize);
+            assert_eq!((refusal, read_page(&text[..length], &mut lent)[0]), (0, 0));
+        });
+    }
+}
+
+#[test]
+fn a_stack_of_64_kib_is_enough_for_a_month() {
     let mut r = Random::new("stack for a month", 23);
-    for sheet in [sheets::largest(&mut r), sheets::fan()] {
+    for sheet in [sheets::largest(&mut r), sheets::largest_fan()] {
         let mut index = vec![0; sheet.need()];
         assert_eq!(open(&sheet, &mut index), [0, 0]);
         let m = months::sound(&mut r, &sheet, &index, MOST);
-        let calls = move || {
+        on_a_stack_of(64, move || {
             let (boundary, off, results) = (lent(m.room.boundary), lent(m.room.off), lent(m.room.results));
             assert_eq!(month(&m, &mut ledger::Lent { boundary, off, results, means: vec![0; m.room.means] })[..2], [0, 0]);
-        };
-        thread::Builder::new().stack_size(256 << 10).spawn(calls).unwrap().join().unwrap();
+        });
     }
 }

@@ -1,7 +1,7 @@
 //! Random calls of opening, plain reading and quick search beside document 01 by brute force: both agree on every word.
 use thawweasel_tests::faults::{self, MISNAMED};
-use thawweasel_tests::paper::{self, Searched, CAUSES};
-use thawweasel_tests::{calls, damage, lent, open, read, search, sheets, sheets::Sheet, Random, Tally};
+use thawweasel_tests::paper::{self, Searched, CAUSES, EARLIER, LIMITS};
+use thawweasel_tests::{damage, lent, open, read, search, sheets, sheets::Sheet, Random, Tally, Trials};
 
 /// The refusals at which faults are aimed, 0 for what goes to a limit.
 const ALL: [u32; 13] = [0, 1, 2, 4, 5, 6, 7, 8, 9, 10, 11, 12, 13];
@@ -10,13 +10,12 @@ const ALL: [u32; 13] = [0, 1, 2, 4, 5, 6, 7, 8, 9, 10, 11, 12, 13];
 const LATE: [u32; 5] = [9, 10, 11, 12, 13];
 
 /// What makes a sheet rich, and whether this accepted one has it.
-fn structure(s: &Sheet) -> [(&'static str, bool); 8] {
+fn structure(s: &Sheet) -> [(&'static str, bool); 9] {
     let points: Vec<(i32, i32)> = s.vertices.chunks_exact(2).map(|v| (v[0], v[1])).collect();
     let edges = || s.edges.chunks_exact(4);
     let fan = |end: usize| (0..points.len()).any(|v| edges().filter(|e| e[end] as usize == v).count() > 2);
     let passes = |e: &[u32]| points.iter().any(|p| points[e[0] as usize].0 < p.0 && p.0 < points[e[1] as usize].0);
     let shares = |x: i32| x != s.west && x != s.east && s.vertices_on(x) > 1;
-    let far = |c: &i32| c.abs() == 1_000_000;
     [
         ("several vertices on one abscissa between the margins", points.iter().any(|p| shares(p.0))),
         ("more than two edges on one side of a vertex", fan(0) || fan(1)),
@@ -24,7 +23,8 @@ fn structure(s: &Sheet) -> [(&'static str, bool); 8] {
         ("more than two vertices on W", s.vertices_on(s.west) > 2),
         ("more than two vertices on E", s.vertices_on(s.east) > 2),
         ("a zone in several pieces", s.pieces() > s.zones as usize),
-        ("a coordinate at a limit", s.vertices.iter().any(far)),
+        ("a coordinate at a limit", s.vertices.iter().any(|c| c.abs() == LIMITS.reach)),
+        ("a coordinate past the earlier limits", s.vertices.iter().any(|&c| !EARLIER.in_range(c))),
         ("a width of one unit", s.west + 1 == s.east),
     ]
 }
@@ -99,7 +99,7 @@ impl Calls {
         let said = read(s, x, y);
         assert_eq!(said, paper::read(s, x, y).values(), "reading ({x}, {y}) of {s:?}");
         self.count_answer("reading", s, x, &said);
-        if said[0] == 0 && said[1] < 20 && (x < s.west || x > s.east || y.unsigned_abs() > 1_000_000) {
+        if said[0] == 0 && said[1] < 20 && (x < s.west || x > s.east || !LIMITS.in_range(y)) {
             self.count("reading: a refused sheet, and a point off it".to_string());
         }
     }
@@ -150,12 +150,11 @@ fn sound(r: &mut Random, c: &mut Calls, s: &Sheet, reads: usize, searches: usize
 
 /// Opens, reads and searches a sheet with faults; the index is that of a sound sheet, with other words where more are needed.
 fn faulty(r: &mut Random, c: &mut Calls, s: &Sheet, index: &[u32], p: (i32, i32)) {
-    let need = s.need().min(6_000);
-    let words = damage::room(r, need);
+    let words = damage::index_room(r, s);
     c.open(s, words);
     c.read(s, p);
     let mut index = index.to_vec();
-    index.resize_with(damage::room(r, need), || r.below(1 + s.zones as u64) as u32);
+    index.resize_with(damage::index_room(r, s), || r.below(1 + s.zones as u64) as u32);
     c.search(s, &index, p, damage::room(r, places(s)));
 }
 
@@ -194,22 +193,29 @@ fn run(r: &mut Random, c: &mut Calls, s: &Sheet, searches: usize) {
     (0..3).for_each(|_| damaged(r, c, s, &index));
 }
 
+/// Fewer calls on a sheet that takes long by brute force.
+fn run_large(r: &mut Random, c: &mut Calls, s: &Sheet) {
+    let index = sound(r, c, s, 1, 200);
+    let (bad, p) = (faults::faulty(r, s, &LATE), point(r, s));
+    faulty(r, c, &bad, &index, p);
+    (0..20).for_each(|_| damaged(r, c, s, &index));
+}
+
 #[test]
 fn random_calls_agree_on_every_word() {
-    let mut r = Random::new("agreement", 17);
+    let (mut r, trials) = (Random::new("agreement", 17), Trials::new(4_000));
     let mut c = Calls { made: 0, came: Tally::new(cases()) };
-    for _ in 0..calls(4_000) {
+    for _ in 0..trials.count {
         let s = sheets::any(&mut r);
         run(&mut r, &mut c, &s, 8);
-    }
-    for s in [sheets::largest(&mut r), sheets::fan()] {
-        run(&mut r, &mut c, &s, 60);
     }
     for (wide, tall) in [(2, 512), (7, 25), (20, 10), (32, 32), (1024, 1)] {
         let s = sheets::woven(&mut r, wide, tall);
         run(&mut r, &mut c, &s, 60);
     }
+    let large = [sheets::largest(&mut r), sheets::largest_fan(), sheets::woven(&mut r, 64, 64)];
+    large.iter().for_each(|s| run_large(&mut r, &mut c, s));
     println!("agreement: {} calls", c.made);
-    c.came.enough();
-    assert!(c.made >= 20_000, "{} calls", c.made);
+    trials.enough(&c.came.counts());
+    assert!(!trials.are_enough() || c.made >= 20_000, "{} calls", c.made);
 }

@@ -1,5 +1,5 @@
 //! Refusal 13 and the zone that it names, against the closure of the steps from below to above.
-use thawweasel_tests::{calls, circles::Steps, enough, faults, lent, open, paper, read, sheets, sheets::Sheet, Random};
+use thawweasel_tests::{circles::Steps, faults, lent, open, paper, read, sheets, sheets::Sheet, Random, Trials};
 
 /// Opens a sheet with nothing wrong but circles, reads a point of it, and compares both with the closure of its steps.
 fn compare(s: &Sheet, (x, y): (i32, i32), steps: &Steps) {
@@ -23,9 +23,9 @@ fn length(steps: &Steps, z: u32, zones: u32) -> usize {
 
 #[test]
 fn the_lowest_zone_on_a_circle_is_named() {
-    let mut r = Random::new("circles", 23);
+    let (mut r, trials) = (Random::new("circles", 23), Trials::new(4_000));
     let (mut none, mut moved, mut same, mut several, mut long, mut between) = (0, 0, 0, 0, 0, 0);
-    for call in 0..calls(4_000) {
+    for call in 0..trials.count {
         let s = if call % 4 == 0 { faults::misnamed(&mut r, 2) } else { sheets::circling(&mut r) };
         let steps = Steps::of(&s.edges, s.zones);
         compare(&s, sheets::point(&mut r, &s), &steps);
@@ -41,7 +41,7 @@ fn the_lowest_zone_on_a_circle_is_named() {
             !steps.lead(z, z) && circles.iter().any(|&c| steps.lead(c, z)) && circles.iter().any(|&c| steps.lead(z, c))
         }) as usize;
     }
-    enough(&[
+    trials.enough(&[
         ("no circle", none), ("another zone named than before P4", moved), ("the same zone", same),
         ("several circles", several), ("a circle of three zones or more", long), ("a zone between circles", between),
     ]);
@@ -61,9 +61,9 @@ fn the_cases_of_both_papers() {
 
 #[test]
 fn a_circle_above_as_many_zones_as_the_limits_allow() {
-    let s = sheets::circle_at_the_top();
-    assert_eq!((s.vertices.len() / 2, s.edges.len() / 4, s.zones), (1_024, 2_042, 1_019));
+    let s = sheets::circle_at_the_top(4_096);
+    assert_eq!((s.vertices.len() / 2, s.edges.len() / 4, s.zones), (4_096, 8_186, 4_091));
     let steps = Steps::of(&s.edges, s.zones);
-    assert_eq!((steps.named(), steps.named_before()), (Some(1_017), Some(1_016)));
+    assert_eq!((steps.named(), steps.named_before()), (Some(4_089), Some(4_088)));
     compare(&s, (7, 7), &steps);
 }

@@ -1,6 +1,6 @@
 //! Demands 2 and 3 of document 01 at every whole point of small accepted sheets.
 use thawweasel_tests::paper::{self, bits, Answer, Found};
-use thawweasel_tests::{calls, enough, open, read, search, sheets, sheets::Sheet, Random};
+use thawweasel_tests::{open, read, search, sheets, sheets::Sheet, Random, Trials};
 
 /// An opened sheet: its line of rule 7 by brute force, and the words that opening wrote with others past them.
 struct Opened {
@@ -35,23 +35,22 @@ fn second(o: &Opened, x: i32, y: i32) -> Answer {
 fn third(r: &mut Random, o: &Opened, x: i32, y: i32, answer: Answer) {
     let Opened { sheet: s, line, index } = o;
     let (n, m) = (s.zones, s.edges.len() as u32 / 4);
-    let Found { answer: published, trail: examined, probes } = paper::published(s, line, x, y);
-    let (lent, count) = (bits(n - 1) as usize + r.below(3) as usize, examined.len() as u32);
-    let mut trail = vec![u32::MAX; lent];
-    let [kind, number, item] = answer.values();
-    assert_eq!(published, answer, "the published descent to ({x}, {y}) of {s:?}");
-    assert_eq!(search(s, index, x, y, &mut trail), [kind, number, item, count, probes], "searching ({x}, {y}) of {s:?}");
-    assert_eq!(trail[..examined.len()], examined, "the trail to ({x}, {y}) of {s:?}");
-    assert!(trail[examined.len()..].iter().all(|&w| w == u32::MAX), "a word past the trail to ({x}, {y}) of {s:?}");
-    assert!((1..examined.len()).all(|p| !examined[..p].contains(&examined[p])), "{examined:?} to ({x}, {y}) of {s:?}");
-    assert!(count <= bits(n - 1) && probes <= bits(n - 1) * bits(m), "{count} and {probes} to ({x}, {y}) of {s:?}");
+    let published = paper::published(s, line, x, y);
+    let mut trail = vec![u32::MAX; bits(n - 1) as usize + r.below(3) as usize];
+    let [kind, number, item, examined, probes] = search(s, index, x, y, &mut trail);
+    let (listed, past) = trail.split_at(examined as usize);
+    assert_eq!([kind, number, item], answer.values(), "searching ({x}, {y}) of {s:?}");
+    assert!(past.iter().all(|&w| w == u32::MAX), "a word past the trail to ({x}, {y}) of {s:?}");
+    assert!((1..listed.len()).all(|p| !listed[..p].contains(&listed[p])), "{listed:?} to ({x}, {y}) of {s:?}");
+    assert!(examined <= bits(n - 1) && probes <= bits(n - 1) * bits(m), "{examined} and {probes} to ({x}, {y}) of {s:?}");
+    assert_eq!(Found { answer, trail: listed.to_vec(), probes }, published, "the published descent to ({x}, {y}) of {s:?}");
 }
 
 #[test]
 fn every_whole_point_of_small_sheets_keeps_demands_two_and_three() {
-    let mut r = Random::new("demands", 18);
-    let (mut drawn, mut points, mut pieces, mut kinds, mut margins) = (0, 0, 0, [0; 4], [0; 2]);
-    for _ in 0..calls(600) {
+    let (mut r, trials) = (Random::new("demands", 18), Trials::new(600));
+    let (mut points, mut pieces, mut corners, mut kinds, mut margins) = (0, 0, 0, [0; 4], [0; 2]);
+    for _ in 0..trials.count {
         let s = sheets::tiny(&mut r);
         let o = opened(&mut r, s);
         let heights = || o.sheet.vertices.iter().skip(1).step_by(2).copied();
@@ -64,12 +63,11 @@ fn every_whole_point_of_small_sheets_keeps_demands_two_and_three() {
             margins[0] += (x == o.sheet.west) as usize;
             margins[1] += (x == o.sheet.east) as usize;
         }
-        drawn += 1;
         pieces += (o.sheet.pieces() > o.sheet.zones as usize) as usize;
+        corners += (o.sheet.west.abs() > 999_999_000 && lowest.abs() > 999_999_000) as usize;
     }
-    println!("demands 2 and 3: {drawn} sheets, every whole point, {points} points");
+    println!("demands 2 and 3: {} sheets, every whole point, {points} points", trials.count);
     let [_, vertices, edges, zones] = kinds;
-    enough(&[("vertices", vertices), ("edges", edges), ("zones", zones), ("at W", margins[0]), ("at E", margins[1])]);
-    enough(&[("sheets with a zone in several pieces", pieces)]);
-    assert!(drawn >= 300, "{drawn} sheets");
+    trials.enough(&[("vertices", vertices), ("edges", edges), ("zones", zones), ("at W", margins[0]), ("at E", margins[1])]);
+    trials.enough(&[("sheets with a zone in several pieces", pieces), ("sheets in a corner of the range", corners)]);
 }

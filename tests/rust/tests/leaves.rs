@@ -1,5 +1,6 @@
 //! The leaves against plain Rust, written from document 01.
-use thawweasel_tests::{bit_length, calls, conflict, covers, enough, first_repeat, lca, side, sort, top_bit, Random};
+use std::collections::HashSet;
+use thawweasel_tests::{bit_length, conflict, covers, first_repeat, lca, side, sort, top_bit, Random, Trials};
 
 #[test]
 fn top_bits_have_the_listed_values() {
@@ -9,8 +10,8 @@ fn top_bits_have_the_listed_values() {
 
 #[test]
 fn bits_and_lca_by_the_machine() {
-    let mut r = Random::new("bits and lca", 1);
-    for _ in 0..calls(20_000) {
+    let (mut r, trials) = (Random::new("bits and lca", 1), Trials::new(20_000));
+    for _ in 0..trials.count {
         let width = 1 + r.below(32);
         let (p, q) = (r.below(1 << width) as u32, r.below(1 << width) as u32);
         assert_eq!(bit_length(p), 32 - p.leading_zeros(), "bits of {p}");
@@ -25,9 +26,9 @@ fn bits_and_lca_by_the_machine() {
 
 #[test]
 fn sorted_by_key_then_number() {
-    let mut r = Random::new("sort", 2);
+    let (mut r, trials) = (Random::new("sort", 2), Trials::new(4_000));
     let (mut ties, mut short, mut empty, mut fewer) = (0, 0, 0, 0);
-    for _ in 0..calls(4_000) {
+    for _ in 0..trials.count {
         let n = r.below(200) as usize;
         let kinds = [1, 3, 50, u64::MAX][r.below(4) as usize];
         let keys: Vec<u64> = (0..n).map(|_| if kinds == u64::MAX { r.next() } else { r.below(kinds) }).collect();
@@ -53,7 +54,7 @@ fn sorted_by_key_then_number() {
     }
     let zero = sort(&[], &mut [], &mut []);
     assert_eq!(zero, 1);
-    enough(&[("with equal keys", ties), ("short scratch", short), ("fewer keys than places", fewer)]);
+    trials.enough(&[("with equal keys", ties), ("short scratch", short), ("fewer keys than places", fewer)]);
     println!("  with fewer than two places: {empty}");
 }
 
@@ -64,44 +65,51 @@ fn coordinate(r: &mut Random, reach: i64) -> i32 {
 
 const REACHES: [i64; 6] = [2, 3, 10, 1_000_000, 1_000_000_000, i32::MAX as i64];
 
+/// Vertices with so far a reach: often two the same, or nearly the same, and some at the lowest end of 32 bits.
+fn vertices(r: &mut Random, count: usize, reach: i64) -> Vec<i32> {
+    let mut list: Vec<i32> = (0..2 * count).map(|_| coordinate(r, reach)).collect();
+    let two = |r: &mut Random| (2 * r.below(count as u64) as usize, 2 * r.below(count as u64) as usize);
+    if count > 1 && r.below(2) == 0 {
+        let (from, to) = two(r);
+        list.copy_within(from..from + 2, to);
+    }
+    if count > 1 && r.below(4) == 0 {
+        // another vertex with one coordinate moved by one, with x and y exchanged, or with both signs turned
+        let (from, to) = two(r);
+        let (x, y) = (list[from], list[from + 1]);
+        let (p, q) = r.one(&[(x.wrapping_add(1), y), (x, y.wrapping_add(1)), (y, x), (x.wrapping_neg(), y.wrapping_neg())]);
+        (list[to], list[to + 1]) = (p, q);
+    }
+    if count > 0 && r.below(4) == 0 {
+        list[r.below(2 * count as u64) as usize] = i32::MIN;
+    }
+    list
+}
+
 #[test]
-fn repeats_by_all_pairs() {
-    let mut r = Random::new("repeats", 5);
-    let names = ["no repeat", "one vertex repeated", "several", "1,024 vertices", "more than 1,024", "a word over", "the ends of 32 bits"];
+fn repeats_by_a_set_of_points() {
+    let (mut r, trials) = (Random::new("repeats", 5), Trials::new(4_000));
+    let names = ["no repeat", "one vertex repeated", "several", "4,096 vertices", "more than 4,096", "a word over", "the ends of 32 bits"];
     let mut seen = [0usize; 7];
-    for _ in 0..calls(4_000) {
-        let count = if r.below(8) == 0 { r.between(1_023, 1_026) as usize } else { r.below(40) as usize };
-        let reach = REACHES[r.below(6) as usize];
-        let mut vertices: Vec<i32> = (0..2 * count).map(|_| coordinate(&mut r, reach)).collect();
-        if count > 1 && r.below(2) == 0 {
-            let (from, to) = (r.below(count as u64) as usize, r.below(count as u64) as usize);
-            vertices.copy_within(2 * from..2 * from + 2, 2 * to);
-        }
-        if r.below(4) == 0 && count > 1 {
-            // another vertex with one coordinate moved by one, with x and y exchanged, or with both signs turned
-            let (from, to) = (r.below(count as u64) as usize, r.below(count as u64) as usize);
-            let (x, y) = (vertices[2 * from], vertices[2 * from + 1]);
-            let (p, q) = r.one(&[(x.wrapping_add(1), y), (x, y.wrapping_add(1)), (y, x), (x.wrapping_neg(), y.wrapping_neg())]);
-            (vertices[2 * to], vertices[2 * to + 1]) = (p, q);
-        }
-        if r.below(4) == 0 && count > 0 {
-            vertices[r.below(2 * count as u64) as usize] = i32::MIN;
-        }
+    for _ in 0..trials.count {
+        let count = if r.below(8) == 0 { r.between(4_095, 4_098) as usize } else { r.below(40) as usize };
+        let reach = r.one(&REACHES);
+        let mut vertices = vertices(&mut r, count, reach);
         let over = r.below(8) == 0;
         if over {
             vertices.push(r.next() as i32);
         }
-        let point = |v: usize| &vertices[2 * v..2 * v + 2];
-        let repeated: Vec<usize> = (0..count).filter(|&v| (0..v).any(|u| point(u) == point(v))).collect();
-        let wanted = (count <= 1_024).then(|| repeated.first().map_or(count as u32, |&v| v as u32));
+        let mut points = HashSet::new();
+        let repeated: Vec<usize> = (0..count).filter(|&v| !points.insert((vertices[2 * v], vertices[2 * v + 1]))).collect();
+        let wanted = (count <= 4_096).then(|| repeated.first().map_or(count as u32, |&v| v as u32));
         assert_eq!(first_repeat(&vertices), wanted, "{vertices:?}");
-        seen[repeated.len().min(2)] += usize::from(count <= 1_024);
-        seen[3] += usize::from(count == 1_024);
-        seen[4] += usize::from(count > 1_024);
+        seen[repeated.len().min(2)] += usize::from(count <= 4_096);
+        seen[3] += usize::from(count == 4_096);
+        seen[4] += usize::from(count > 4_096);
         seen[5] += usize::from(over);
         seen[6] += usize::from(vertices.contains(&i32::MAX) && vertices.contains(&i32::MIN));
     }
-    enough(&names.iter().copied().zip(seen).collect::<Vec<_>>());
+    trials.enough(&names.iter().copied().zip(seen).collect::<Vec<_>>());
 }
 
 struct Edge {
@@ -141,11 +149,11 @@ fn two_edges(r: &mut Random) -> (Vec<i32>, Vec<u32>, i64) {
 
 #[test]
 fn side_is_the_sign_of_the_formula() {
-    let mut r = Random::new("side", 3);
+    let (mut r, trials) = (Random::new("side", 3), Trials::new(40_000));
     let mut seen = [0usize; 3];
     let mut covered = [0usize; 2];
     let mut at_margin = 0;
-    for _ in 0..calls(40_000) {
+    for _ in 0..trials.count {
         let (vertices, edges, reach) = two_edges(&mut r);
         let g = edge(&vertices, &edges, 0);
         let x = match r.below(4) {
@@ -167,8 +175,8 @@ fn side_is_the_sign_of_the_formula() {
             seen[(sign + 1) as usize] += 1;
         }
     }
-    enough(&[("below", seen[0]), ("on", seen[1]), ("above", seen[2])]);
-    enough(&[("not covered", covered[0]), ("covered", covered[1]), ("covered at E", at_margin)]);
+    trials.enough(&[("below", seen[0]), ("on", seen[1]), ("above", seen[2])]);
+    trials.enough(&[("not covered", covered[0]), ("covered", covered[1]), ("covered at E", at_margin)]);
 }
 
 /// The sign of (height of g less height of h) at x.
@@ -180,11 +188,11 @@ fn sign_at(g: &Edge, h: &Edge, x: i128) -> i128 {
 
 #[test]
 fn conflict_is_rule_4() {
-    let mut r = Random::new("conflict", 4);
+    let (mut r, trials) = (Random::new("conflict", 4), Trials::new(60_000));
     let zeros = ["a zero at a, no common vertex", "a zero at b, no common vertex"];
     let names = ["no overlap", "opposite signs", "both zero", zeros[0], zeros[1], "a fork", "a meeting", "apart"];
     let mut seen = [0usize; 8];
-    for _ in 0..calls(60_000) {
+    for _ in 0..trials.count {
         let (vertices, edges, _) = two_edges(&mut r);
         let (g, h) = (edge(&vertices, &edges, 0), edge(&vertices, &edges, 1));
         let (a, b) = (g.xw.max(h.xw), g.xe.min(h.xe));
@@ -207,5 +215,5 @@ fn conflict_is_rule_4() {
         assert_eq!(conflict(&vertices, &edges, 1, 0), wanted, "{vertices:?} {edges:?}: {}", names[case]);
         seen[case] += 1;
     }
-    enough(&names.iter().copied().zip(seen).collect::<Vec<_>>());
+    trials.enough(&names.iter().copied().zip(seen).collect::<Vec<_>>());
 }

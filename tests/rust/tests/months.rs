@@ -5,10 +5,7 @@ use thawweasel_tests::json::Json;
 use thawweasel_tests::kept::{good, keep, lens_month, opened, shown, tables, PAST};
 use thawweasel_tests::ledger::{self, in_range, Lent, Month, Place, Reading, Room, MOST, SHORTAGES};
 use thawweasel_tests::months::{self, FAULTS};
-use thawweasel_tests::{calls, damage, faults, month, sheets, sheets::Sheet, Random, Tally};
-
-/// What every word of the outside vectors holds before it is lent.
-const LENT: u32 = 0xA5A5_A5A5;
+use thawweasel_tests::{amended, damage, faults, month, sheets, sheets::Sheet, vectors::LENT, Random, Tally, Trials};
 
 /// The refusals of a month in their order.
 const ORDER: [u32; 8] = [1, 2, 3, 43, 42, 40, 22, 41];
@@ -66,22 +63,23 @@ fn answer(result: &Json, before: &Lent) -> ([u32; 4], Lent) {
 fn every_month_of_the_outside_vectors_is_kept_as_its_line_says() {
     let path = Path::new(env!("CARGO_MANIFEST_DIR")).join("../vectors/months.jsonl");
     let text = fs::read_to_string(path).unwrap();
-    let (mut kept, mut refused) = (0, 0);
+    let (mut kept, mut refused, mut moved) = (0, 0, 0);
     for line in text.lines() {
         let read = Json::read(line);
         let m = vector(&read);
         let words = |words: usize| vec![LENT; words + PAST];
         let (boundary, off, results) = (words(m.room.boundary), words(m.room.off), words(m.room.results));
         let before = Lent { boundary, off, results, means: vec![u64::from(LENT) << 32 | u64::from(!LENT); m.room.means + PAST] };
-        let expected = answer(read.get("result"), &before);
+        let amended = amended::keep(&m, &before, &answer(read.get("result"), &before));
         let mut after = before.clone();
-        assert_eq!((month(&m, &mut after), after), expected, "{line}");
-        assert_eq!(ledger::month(&m, &before), expected, "by plain means: {line}");
-        if expected.0[0] == 0 { kept += 1 } else { refused += 1 }
+        assert_eq!((month(&m, &mut after), after), amended.now, "{line}");
+        if amended.now.0[0] == 0 { kept += 1 } else { refused += 1 }
+        moved += amended.differs() as usize;
     }
     println!("months: {} lines of tests/vectors/months.jsonl, {kept} kept and {refused} refused", kept + refused);
+    println!("  {moved} of them otherwise than under the earlier limits");
     assert_eq!(kept + refused, text.lines().count());
-    assert!(kept > 0 && refused > 0, "no line of a kind was run");
+    assert!(kept > 0 && refused > 0 && moved > 0, "no line of a kind was run");
 }
 
 /// Makes the fault of this refusal in the month of the test below; for 43, the one at this place of `FAULTS`.
@@ -256,16 +254,16 @@ fn strange(r: &mut Random, came: &mut Tally, m: &Month) {
     }
     let bad = faults::faulty(r, s, &[0, 1, 2, 4, 5, 6, 7, 8, 9, 10, 11, 12, 13]);
     let mut words = m.index.clone();
-    words.resize_with(damage::room(r, bad.need().min(6_000)), || r.below(1 + s.zones as u64) as u32);
+    words.resize_with(damage::index_room(r, &bad), || r.below(1 + s.zones as u64) as u32);
     let said = kept(came, &months::any(r, s, &bad, &words, samples));
     came.count(if said[0] == 0 { "on a sheet with faults: a good month" } else { "on a sheet with faults: refused" });
 }
 
 #[test]
 fn random_months_agree_in_every_word() {
-    let mut r = Random::new("months", 41);
+    let (mut r, trials) = (Random::new("months", 41), Trials::new(3_000));
     let mut came = Tally::new(cases());
-    for _ in 0..calls(3_000) {
+    for _ in 0..trials.count {
         let m = good(&mut r);
         assert_eq!(kept(&mut came, &m)[..2], [0, 0], "{}", shown(&m));
         (0..4).for_each(|_| faulty(&mut r, &mut came, &m));
@@ -273,15 +271,15 @@ fn random_months_agree_in_every_word() {
         (0..2).for_each(|_| damaged(&mut r, &mut came, &m));
         strange(&mut r, &mut came, &m);
     }
-    came.enough();
+    trials.enough(&came.counts());
 }
 
 #[test]
 fn as_many_samples_as_there_may_be_and_one_more() {
     let mut r = Random::new("long months", 42);
     let (mut kept, mut refused) = (0, 0);
-    let drawn = [sheets::woven(&mut r, 32, 32), sheets::largest(&mut r), sheets::any(&mut r)];
-    for s in [sheets::lens(), sheets::blank(), sheets::fan()].into_iter().chain(drawn) {
+    let drawn = [sheets::woven(&mut r, 64, 64), sheets::largest(&mut r), sheets::any(&mut r)];
+    for s in [sheets::lens(), sheets::blank(), sheets::largest_fan()].into_iter().chain(drawn) {
         let index = opened(&mut r, &s);
         for samples in [MOST - 1, MOST] {
             let m = months::sound(&mut r, &s, &index, samples);

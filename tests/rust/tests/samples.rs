@@ -2,7 +2,7 @@
 //! no zone; the sum runs in sample order; one value alone is the mean.
 use thawweasel_tests::kept::{good, keep, lens_month, shown, tables};
 use thawweasel_tests::ledger::{Lent, Month};
-use thawweasel_tests::{calls, enough, months, read, Random};
+use thawweasel_tests::{months, read, Random, Trials};
 
 /// The taken samples in each zone, those on a boundary and those off the sheet, by the plain reading of each point.
 struct Places {
@@ -39,9 +39,9 @@ fn zone_counts(m: &Month, after: &Lent, zone: usize, samples: &[u32]) {
 
 #[test]
 fn every_taken_sample_counts_once_where_the_plain_reading_has_it() {
-    let mut r = Random::new("places of samples", 43);
+    let (mut r, trials) = (Random::new("places of samples", 43), Trials::new(1_000));
     let (mut one, mut several, mut boundary, mut off) = (0, 0, 0, 0);
-    for _ in 0..calls(1_000) {
+    for _ in 0..trials.count {
         let m = good(&mut r);
         let (said, after) = keep(&m);
         let places = places(&m);
@@ -55,8 +55,8 @@ fn every_taken_sample_counts_once_where_the_plain_reading_has_it() {
         several += places.zones.iter().filter(|samples| samples.len() > 1).count();
         (boundary, off) = (boundary + places.boundary.len(), off + places.off.len());
     }
-    enough(&[("zones of one value", one), ("zones of several values", several)]);
-    enough(&[("samples on a boundary", boundary), ("samples off the sheet", off)]);
+    trials.enough(&[("zones of one value", one), ("zones of several values", several)]);
+    trials.enough(&[("samples on a boundary", boundary), ("samples off the sheet", off)]);
 }
 
 /// A month without these samples.
@@ -71,9 +71,9 @@ fn without(m: &Month, samples: &[u32]) -> Month {
 
 #[test]
 fn samples_in_no_zone_touch_no_zone() {
-    let mut r = Random::new("samples in no zone", 44);
+    let (mut r, trials) = (Random::new("samples in no zone", 44), Trials::new(1_000));
     let (mut moved, mut removed) = (0, 0);
-    for _ in 0..calls(1_000) {
+    for _ in 0..trials.count {
         let m = good(&mut r);
         let (said, after) = keep(&m);
         let outside = [&after.boundary[..said[2] as usize], &after.off[..said[3] as usize]].concat();
@@ -92,7 +92,7 @@ fn samples_in_no_zone_touch_no_zone() {
             removed += outside.len();
         }
     }
-    enough(&[("samples in no zone given other values", moved), ("samples in no zone left out or not taken", removed)]);
+    trials.enough(&[("samples in no zone given other values", moved), ("samples in no zone left out or not taken", removed)]);
 }
 
 #[test]
@@ -120,7 +120,7 @@ fn one_value_alone_is_the_mean_bit_for_bit() {
     let mut r = Random::new("months of one value", 45);
     let (least, normal, most) = (f64::from_bits(1), f64::MIN_POSITIVE, 1_000_f64);
     let mut values = vec![1.0, 0.1, least, normal.next_down(), normal, most.next_down(), most];
-    values.extend((0..calls(1_000)).map(|_| months::value(&mut r)));
+    values.extend((0..Trials::new(1_000).count).map(|_| months::value(&mut r)));
     for &value in &values {
         let kind = r.one(&[1, 2]);
         let mut m = lens_month(&[(5, 0, 1, 7.0), (2, 0, kind, value), (1, 1, 2, 900.0), (2, 1, 0, f64::NAN)]);

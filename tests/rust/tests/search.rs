@@ -1,5 +1,5 @@
-//! The quick search over any words, with several refusals at once, and where only one zone is left to judge.
-use thawweasel_tests::{calls, enough, lent, paper, search, sheets, sheets::lens, sheets::Sheet, Random};
+//! The quick search over any words, with several refusals at once, at the limits, and where only one zone is left to judge.
+use thawweasel_tests::{enough, lent, open, paper, read, search, sheets, sheets::lens, sheets::Sheet, Random, Trials};
 
 /// Searches over so many lent trail words: what it said and the counted entries; every other word must be as it was lent.
 fn searched(s: &Sheet, index: &[u32], (x, y): (i32, i32), room: usize) -> ([u32; 5], Vec<u32>) {
@@ -28,9 +28,9 @@ fn any_words(r: &mut Random, s: &Sheet) -> Vec<u32> {
 
 #[test]
 fn any_words_in_an_index_are_answered_or_refused() {
-    let mut r = Random::new("any words", 16);
+    let (mut r, trials) = (Random::new("any words", 16), Trials::new(10_000));
     let mut given = [0; 2];
-    for _ in 0..calls(10_000) {
+    for _ in 0..trials.count {
         let s = sheets::tiny(&mut r);
         let (index, p) = (any_words(&mut r, &s), sheets::inside(&mut r, &s));
         let room = paper::bits(s.zones - 1) as usize + r.below(3) as usize;
@@ -39,25 +39,25 @@ fn any_words_in_an_index_are_answered_or_refused() {
         assert_eq!((said, &trail[..]), (expected.out, &expected.trail[..trail.len()]), "{p:?} over {index:?} of {s:?}");
         given[(said[0] == 0) as usize] += 1;
     }
-    enough(&[("answered", given[0]), ("refused", given[1])]);
+    trials.enough(&[("answered", given[0]), ("refused", given[1])]);
 }
 
 /// Sheets like the lens sheet that refusal 1 names.
 fn uncountable() -> Vec<Sheet> {
-    let vertices = [9, 2050].map(|words| Sheet { vertices: vec![0; words], ..lens() });
-    let edges = [17, 18, 19, 8196].map(|words| Sheet { edges: vec![0; words], ..lens() });
-    let zones = [0, 1025, u32::MAX].map(|zones| Sheet { zones, ..lens() });
+    let vertices = [9, 8_194].map(|words| Sheet { vertices: vec![0; words], ..lens() });
+    let edges = [17, 18, 19, 32_772].map(|words| Sheet { edges: vec![0; words], ..lens() });
+    let zones = [0, 4_097, u32::MAX].map(|zones| Sheet { zones, ..lens() });
     [&vertices[..], &edges[..], &zones[..]].concat()
 }
 
 /// Margins for the lens sheet, sound ones first, then some that refusal 2 names.
-const MARGINS: [(i32, i32); 6] = [(0, 4), (4, 4), (5, 4), (-1_000_001, 4), (0, 1_000_001), (i32::MIN, i32::MAX)];
+const MARGINS: [(i32, i32); 6] = [(0, 4), (4, 4), (5, 4), (-1_000_000_001, 4), (0, 1_000_000_001), (i32::MIN, i32::MAX)];
 
 /// A point, and where it is on the lens sheet its answer with both counts and its trail.
 type Case = ((i32, i32), Option<([u32; 5], &'static [u32])>);
 
-/// The points of the lens sheet with their answers in document 01, then some off it.
-const POINTS: [Case; 12] = [
+/// The points of the lens sheet with their answers in document 01, two at the limits of the heights, then some off it.
+const POINTS: [Case; 14] = [
     ((2, 0), Some(([3, 1, 0, 2, 2], &[1, 3]))),
     ((2, 2), Some(([1, 1, 0, 1, 1], &[1]))),
     ((1, 1), Some(([2, 0, 0, 1, 2], &[0]))),
@@ -65,10 +65,12 @@ const POINTS: [Case; 12] = [
     ((0, 0), Some(([1, 0, 0, 1, 2], &[0]))),
     ((1, 5), Some(([3, 2, 0, 1, 2], &[0]))),
     ((3, -2), Some(([3, 0, 0, 2, 2], &[1, 3]))),
+    ((2, 1_000_000_000), Some(([3, 2, 0, 1, 1], &[1]))),
+    ((2, -1_000_000_000), Some(([3, 0, 0, 2, 2], &[1, 3]))),
     ((-1, 0), None),
     ((5, 0), None),
-    ((2, 1_000_001), None),
-    ((2, -1_000_001), None),
+    ((2, 1_000_000_001), None),
+    ((2, -1_000_000_001), None),
     ((i32::MIN, i32::MAX), None),
 ];
 
@@ -103,6 +105,32 @@ fn of_several_refusals_the_first_is_given() {
     uncountable().iter().for_each(|s| first_refusals(s, false, &mut given));
     let named = [("none", 0), ("1", 1), ("2", 2), ("3", 3), ("20", 20), ("21", 21), ("22", 22)];
     enough(&named.map(|(name, number)| (name, given[number])));
+}
+
+#[test]
+fn twelve_places_for_the_most_zones() {
+    let mut r = Random::new("places", 24);
+    for s in [sheets::largest(&mut r), sheets::largest_fan()] {
+        let mut index = vec![0; s.need()];
+        assert_eq!((open(&s, &mut index), s.zones), ([0, 0], 4_096));
+        for p in (0..400).map(|_| sheets::inside(&mut r, &s)) {
+            assert_eq!(searched(&s, &index, p, 11), ([0, 21, 0, 0, 0], vec![]), "a trail of 11 places");
+            let (said, trail) = searched(&s, &index, p, 12);
+            let expected = paper::search(&s, &index, p.0, p.1, &[0; 12]);
+            assert_eq!((said, &trail[..]), (expected.out, &expected.trail[..trail.len()]), "{p:?}");
+        }
+    }
+}
+
+#[test]
+fn twelve_edges_examined_on_the_way_through_the_largest_fan() {
+    let s = sheets::largest_fan();
+    let mut index = vec![0; s.need()];
+    assert_eq!(open(&s, &mut index), [0, 0]);
+    let (said, trail) = searched(&s, &index, (1_000, -1_000_000_000), 12);
+    assert_eq!(said, [3, 0, 0, 12, 12], "one edge in each chain");
+    assert_eq!(trail, [2047, 1023, 511, 255, 127, 63, 31, 15, 7, 3, 1, 0]);
+    assert_eq!(read(&s, 1_000, -1_000_000_000), [3, 0, 0]);
 }
 
 #[test]

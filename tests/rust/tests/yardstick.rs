@@ -1,6 +1,6 @@
 //! The benchmarks' plain Rust beside document 01 by brute force: it makes the same checks and gives the same refusals.
 use thawweasel_tests::paper::{self, Searched};
-use thawweasel_tests::{calls, damage, enough, faults, plain::Tables, sheets, sheets::Sheet, Random};
+use thawweasel_tests::{damage, faults, plain::Tables, sheets, sheets::Sheet, Random, Trials};
 
 /// The refusals at which faults are aimed.
 const AIMS: [u32; 12] = [1, 2, 4, 5, 6, 7, 8, 9, 10, 11, 12, 13];
@@ -43,7 +43,7 @@ fn compare(r: &mut Random, given: &mut Given, s: &Sheet) {
     damage::damage(r, &mut bad, &mut words, &found);
     let mut wrong = vec![(bad, words)];
     for bad in [faults::faulty(r, s, &AIMS), faults::faulty(r, s, &AIMS[7..]), faults::misnamed(r, 0), faults::misnamed(r, 2)] {
-        let lent = damage::room(r, bad.need().min(6_000));
+        let lent = damage::index_room(r, &bad);
         given.openings[opened(&bad, lent, p).0[0] as usize] += 1;
         wrong.push((bad, index.clone()));
     }
@@ -57,14 +57,16 @@ fn compare(r: &mut Random, given: &mut Given, s: &Sheet) {
 
 #[test]
 fn the_plain_rust_of_the_benchmarks_makes_the_same_checks() {
-    let mut r = Random::new("yardstick", 22);
+    let (mut r, trials) = (Random::new("yardstick", 22), Trials::new(2_000));
     let mut given = Given::default();
-    for _ in 0..calls(2_000) {
+    for _ in 0..trials.count {
         let s = sheets::any(&mut r);
         compare(&mut r, &mut given, &s);
     }
+    let s = sheets::largest(&mut r);
+    compare(&mut r, &mut given, &s);
     let openings = (1..14).map(|n| (format!("opening refused {n}"), given.openings[n]));
     let searches = [1, 2, 3, 20, 21, 22].map(|n| (format!("search refused {n}"), given.searches[n]));
     let counts: Vec<(String, usize)> = openings.chain(searches).collect();
-    enough(&counts.iter().map(|(name, count)| (&name[..], *count)).collect::<Vec<_>>());
+    trials.enough(&counts.iter().map(|(name, count)| (&name[..], *count)).collect::<Vec<_>>());
 }

@@ -1,34 +1,13 @@
--- Counts that break a limit break it at that test; those that pass all keep them.
-use mathlib.Core.Path.{sym}
-use native.Mathlib.Omega.{arith}
-use borrow.Author.Tests.{leb-true, leb-false}
-use lib.Dec.{leb}
-use Rattle.subdivision.specs.Limits.{maxZones}
-use Rattle.subdivision.specs.Formula.{Formula}
-use Rattle.subdivision.specs.Refusals.{countsWithin}
-use Rattle.theory.proofs.Decide.{fails, computes}
+-- The limits are handed on.
+use borrow.Author.Needs.{needs}
 use Rattle.counts.proofs.counts_within.Statement.{statement}
 use Rattle.counts.proofs.counts_within.Tie as tie
 
--- the limits on the counts
-abbrev limits : tie.Start → Formula
-limits c = countsWithin (c .args .vertices) (c .args .edges) (c .args .zones)
+at-most-requires : tie.Need-at-most-requires
+at-most-requires c κs = search needs
 
 returns : tie.Need-returns
-returns c = sym (fails (limits (c .before)) (λ m. omega arith))
-
-returns-2 : tie.Need-returns-2
-returns-2 c = sym (fails (limits (c .before .before)) (λ m. omega arith))
-
-returns-3 : tie.Need-returns-3
-returns-3 c = sym (fails (limits (c .before .before .before)) (λ m. omega arith))
-
-returns-4 : tie.Need-returns-4
-returns-4 c =
-    let zones = c .before .before .before .args .zones in
-    computes (limits (c .before .before .before)) (leb zones maxZones)
-    (λ e. ((omega arith, omega arith), (omega arith, leb-true zones maxZones e)))
-    (λ e m. let past = leb-false zones maxZones e in omega arith)
+returns c = c .at-most .ensures
 
 pub counts-within-spec : {M : Type 1} → statement M
-counts-within-spec = tie.close (tie.spec returns returns-2 returns-3 returns-4)
+counts-within-spec = tie.close (tie.spec at-most-requires returns)

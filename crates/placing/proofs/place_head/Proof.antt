@@ -47,7 +47,7 @@ slice-aggregate-place-sheet-3 c =
 place-sheet-requires : tie.Need-place-sheet-requires
 place-sheet-requires c κs =
     let s = c .before .before .before .before .before .before .before .before .before .before .before .before in
-    (omega arith, (omega arith, omega (arith, length-take-le (2 * s .args .count) (s .args .points .now) (omega arith))))
+    (omega (arith, length-take-le (4 * s .args .head .edges) (s .args .edges .now) (omega arith)), (omega arith, omega (arith, length-take-le (2 * s .args .count) (s .args .points .now) (omega arith))))
 
 same-length : tie.Need-same-length
 same-length c = search needs

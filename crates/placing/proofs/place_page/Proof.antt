@@ -1,4 +1,4 @@
--- A text without room is refused; a page that is too long is one line; any other is read and placed.
+-- A text without room is refused; a page that is too long, or whose head counts more than is held, is one line; any other is read and placed.
 use mathlib.Core.Path.{_≡_, sym, ap, subst, _∙_}
 use mathlib.Core.List.{List}
 use Prim.Native.Nat.{ℕ}
@@ -13,7 +13,7 @@ use Rattle.frames.specs.declared.Written.{Written}
 use Rattle.frames.specs.Texts.{PageWritten}
 use Rattle.frames.specs.Placing.{refusedText, placePage}
 use Rattle.theory.proofs.Written.{over-front}
-use Rattle.placing.proofs.Printed.{refused-short, placed-long, places, places-short, printed-counts}
+use Rattle.placing.proofs.Printed.{refused-short, placed-long, placed-beyond, places, places-short, printed-counts}
 use borrow.Author.Needs.{needs}
 use Rattle.placing.proofs.place_page.Statement.{statement}
 use Rattle.placing.proofs.place_page.Tie as tie
@@ -56,6 +56,26 @@ returns-2 c =
     let text = w .1 ∙ over-front (refusedText 34 0) (s .args .text .now) ∙ ap (λ t. put t (s .args .text .now)) line in
     ensured s (Written.Text (c .before .before .put-refusal .result)) (c .before .before .put-refusal .last .1 .1 .0) ((λ i. record { written = Written.Text (long i); text = text i }) ∙ e)
 
+head-beyond-requires : tie.Need-head-beyond-requires
+head-beyond-requires c κs = search needs
+
+put-refusal-requires-2 : tie.Need-put-refusal-requires-2
+put-refusal-requires-2 c κs = omega (arith, refused-short 1 0 (lit< tt) (lit< tt))
+
+same-length-2 : tie.Need-same-length-2
+same-length-2 c = search needs
+
+returns-3 : tie.Need-returns-3
+returns-3 c =
+    let s = c .before .before .before .before .before .before .before .before .before .before in
+    let w = c .before .before .put-refusal2 .ensures in
+    let beyond = sym (c .before .before .before .before .before .head-beyond .ensures) ∙ c .before .before .before .before .if3 .taken in
+    let line = sym (placed-beyond (s .args .page .now) (omega arith) beyond) in
+    let e = sym (places (s .args .page .now) (s .args .text .now) (omega arith)) in
+    let long = w .0 ∙ zero-add (length (refusedText 1 0)) ∙ ap length line in
+    let text = w .1 ∙ over-front (refusedText 1 0) (s .args .text .now) ∙ ap (λ t. put t (s .args .text .now)) line in
+    ensured s (Written.Text (c .before .before .put-refusal2 .result)) (c .before .before .put-refusal2 .last .1 .1 .0) ((λ i. record { written = Written.Text (long i); text = text i }) ∙ e)
+
 slice-aggregate-place-read : tie.Need-slice-aggregate-place-read
 slice-aggregate-place-read c = search needs
 
@@ -69,15 +89,17 @@ slice-aggregate-place-read-4 : tie.Need-slice-aggregate-place-read-4
 slice-aggregate-place-read-4 c = search needs
 
 place-read-requires : tie.Need-place-read-requires
-place-read-requires c κs = search needs
+place-read-requires c κs =
+    let held-head = sym (c .before .before .before .before .before .before .head-beyond .ensures) ∙ c .before .before .before .before .before .if3 .left in
+    ((omega arith, omega arith), (omega arith, (omega arith, (omega arith, (omega arith, held-head)))))
 
-same-length-2 : tie.Need-same-length-2
-same-length-2 c = search needs
+same-length-3 : tie.Need-same-length-3
+same-length-3 c = search needs
 
-returns-3 : tie.Need-returns-3
-returns-3 c =
+returns-4 : tie.Need-returns-4
+returns-4 c =
     let w = c .before .before .before .before .before .before .place-read .ensures in
-    let s = c .before .before .before .before .before .before .before .before .before .before .before .before .before .before .before .before in
+    let s = c .before .before .before .before .before .before .before .before .before .before .before .before .before .before .before .before .before .before in
     let e = sym (places (s .args .page .now) (s .args .text .now) (omega arith)) in
     let r = c .before .before .before .before .before .before .place-read in
     ensured s (Written.Text (r .result)) (r .last .1 .1 .1 .1 .1 .0) ((λ i. record { written = Written.Text (w .0 i); text = w .1 i }) ∙ e)
@@ -90,10 +112,14 @@ place-page-spec =
     put-refusal-requires
     same-length
     returns-2
+    head-beyond-requires
+    put-refusal-requires-2
+    same-length-2
+    returns-3
     slice-aggregate-place-read
     slice-aggregate-place-read-2
     slice-aggregate-place-read-3
     slice-aggregate-place-read-4
     place-read-requires
-    same-length-2
-    returns-3)
+    same-length-3
+    returns-4)

@@ -14,10 +14,10 @@ use Rattle.frames.specs.declared.Page.{Page}
 use Rattle.frames.specs.Pages.{roomKept, judgedPage, readPage}
 use Rattle.frames.specs.Placing.{refusedText, sheetText, placedText}
 use Rattle.theory.proofs.Written.{over-front}
-use Rattle.framing.proofs.Judging.{judged-good, good-limits, read-sheet, refused-judged}
+use Rattle.framing.proofs.Judging.{judged-good, read-sheet, refused-judged}
 use Rattle.framing.proofs.PageTexts.{good-length}
 use Rattle.framing.proofs.TablesRead.{tables-read}
-use Rattle.placing.proofs.Printed.{refused-short, placed-refused, placed-good}
+use Rattle.placing.proofs.Printed.{refused-short, held-counts, placed-refused, placed-good}
 use borrow.Author.Needs.{needs}
 use Rattle.placing.proofs.place_read.Statement.{statement}
 use Rattle.placing.proofs.place_read.Tie as tie
@@ -26,11 +26,11 @@ use Rattle.placing.proofs.place_read.Tie as tie
 few : (s : tie.Start) (count : ℕ) → judgedPage (s .args .page .now) ≡ Judged.Good count → 2 * count ≤ 6894
 few s count j = omega (arith, good-length (s .args .page .now) count (judged-good (s .args .page .now) count j), s .pre .0 .0)
 
--- any page has room in the tables
+-- any page that the program holds has room in the tables
 room : (s : tie.Start) (count : ℕ) → judgedPage (s .args .page .now) ≡ Judged.Good count
     → Means (roomKept (s .args .page .now) count (length (s .args .vertices .now)) (length (s .args .edges .now)) (length (s .args .points .now)))
 room s count j =
-    let limits = good-limits (s .args .page .now) count (judged-good (s .args .page .now) count j) in
+    let limits = held-counts (s .args .page .now) count (judged-good (s .args .page .now) count j) (s .pre .1 .1 .1 .1 .1) in
     (omega (arith, limits .0 .0, s .pre .1 .0), (omega (arith, limits .0 .1, s .pre .1 .1 .0), omega (arith, few s count j, s .pre .1 .1 .1 .0)))
 
 -- what the reader's answer is
@@ -42,7 +42,7 @@ Answered c r =
 line : (c : tie.After-read-page) (number k : ℕ) → Answered c (Page.Refused number k) → refusedText number k ≡ placedText (c .before .before .before .before .before .before .before .before .args .page .now)
 line c number k e =
     let s = c .before .before .before .before .before .before .before .before in
-    sym (placed-refused (s .args .page .now) number k (s .pre .0 .0) (refused-judged (s .args .page .now) (s .args .vertices .now) (s .args .edges .now) (s .args .points .now) number k (room s) e))
+    sym (placed-refused (s .args .page .now) (s .pre .1 .1 .1 .1 .1) number k (s .pre .0 .0) (refused-judged (s .args .page .now) (s .args .vertices .now) (s .args .edges .now) (s .args .points .now) number k (room s) e))
 
 read-page-requires : tie.Need-read-page-requires
 read-page-requires c κs = search needs
@@ -64,9 +64,10 @@ place-head-requires c κs =
     let p = c .before .before .before .before .before .before .before .before .before .before .before .before in
     let s = p .before .before .before .before .before .before .before .before in
     let n = c .before .before .before .before .before .before .head .given in
-    let r = read-sheet (s .args .page .now) (s .args .vertices .now) (s .args .edges .now) (s .args .points .now) (n .0 .0) (n .0 .1 .0) (sym (p .read-page .ensures .0) ∙ n .1) in (
+    let r = read-sheet (s .args .page .now) (s .args .vertices .now) (s .args .edges .now) (s .args .points .now) (n .0 .0) (n .0 .1 .0) (sym (p .read-page .ensures .0) ∙ n .1) in
+    let limits = held-counts (s .args .page .now) (n .0 .1 .0) (judged-good (s .args .page .now) (n .0 .1 .0) (r .0)) (s .pre .1 .1 .1 .1 .1) in (
       (omega (arith, r .1 .1 .0, ap (λ (h : Head). h .vertices) (r .1 .0)), (omega (arith, r .1 .1 .1 .0, ap (λ (h : Head). h .edges) (r .1 .0)), omega (arith, r .1 .1 .1 .1))),
-      (omega arith, (omega arith, omega (arith, few s (n .0 .1 .0) (r .0)))),
+      (omega (arith, limits .0 .1, limits .1 .1, ap (λ (h : Head). h .edges) (r .1 .0), ap (λ (h : Head). h .zones) (r .1 .0)), (omega arith, omega (arith, few s (n .0 .1 .0) (r .0)))),
     )
 
 same-length : tie.Need-same-length
@@ -120,7 +121,7 @@ returns-2 c =
     let text =
     (λ i. sheetText (sheetOf (head .west) (head .east) (take (2 * head .vertices) (q .0 i)) (take (4 * head .edges) (q .1 .0 i)) (head .zones)) (take (2 * n .0 .1 .0) (q .1 .1 .0 i)))
     ∙ (λ i. sheetText (h .0 i) (h .1 i))
-    ∙ sym (placed-good (s .args .page .now) (n .0 .1 .0) (s .pre .0 .0) (r .0)) in
+    ∙ sym (placed-good (s .args .page .now) (s .pre .1 .1 .1 .1 .1) (n .0 .1 .0) (s .pre .0 .0) (r .0)) in
     let w = c .before .before .before .before .place-head .ensures in
     (w .0 ∙ ap length text, w .1 ∙ ap (λ t. put t (s .args .text .now)) text)
 

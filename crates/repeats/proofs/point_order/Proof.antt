@@ -1,56 +1,44 @@
--- The keys that are sorted by are those of the vertices, at every number that is sorted.
-use mathlib.Core.Path.{_≡_, sym, subst}
-use mathlib.Core.List.{List}
-use Prim.Native.Nat.{ℕ, _≤_}
-use native.Mathlib.Omega.{arith}
+-- The parts of the local arrays have a place for each vertex that is sorted, as `sort_by_point` asks.
+use mathlib.Core.Path.{sym}
 use borrow.Author.Needs.{needs}
 use lib.ListN.{length}
 use Rattle.subdivision.specs.Limits.{maxVertices}
-use Rattle.subdivision.specs.Order.{SortedBelow, inOrder}
-use Rattle.theory.proofs.Keys.{sorted-by-keys}
-use Rattle.theory.proofs.Order.{sorted-below}
-use Rattle.theory.proofs.Repeats.{pointKey, sorted-by-point}
+use Rattle.theory.proofs.Lists.{zeros-part}
 use Rattle.repeats.proofs.point_order.Statement.{statement}
 use Rattle.repeats.proofs.point_order.Tie as tie
 
-slice-aggregate-point-keys : tie.Need-slice-aggregate-point-keys
-slice-aggregate-point-keys c = search needs
+array-borrow-prefix-keys : tie.Need-array-borrow-prefix-keys
+array-borrow-prefix-keys c = search needs
 
-point-keys-requires : tie.Need-point-keys-requires
-point-keys-requires c κs = search needs
+slice-aggregate-sort-by-point : tie.Need-slice-aggregate-sort-by-point
+slice-aggregate-sort-by-point c = zeros-part maxVertices (length (c .before .before .args .order .now)) (c .before .before .pre)
 
-slice-aggregate-sort : tie.Need-slice-aggregate-sort
-slice-aggregate-sort c = search needs
+array-borrow-prefix-scratch : tie.Need-array-borrow-prefix-scratch
+array-borrow-prefix-scratch c = search needs
 
-slice-aggregate-sort-2 : tie.Need-slice-aggregate-sort-2
-slice-aggregate-sort-2 c = search needs
+slice-aggregate-sort-by-point-2 : tie.Need-slice-aggregate-sort-by-point-2
+slice-aggregate-sort-by-point-2 c = zeros-part maxVertices (length (c .before .before .before .args .order .now)) (c .before .before .before .pre)
 
-sort-requires : tie.Need-sort-requires
-sort-requires c κs = search needs
+sort-by-point-requires : tie.Need-sort-by-point-requires
+sort-by-point-requires c κs =
+    let start = c .before .before .before .before in
+    let long = sym (zeros-part maxVertices (length (start .args .order .now)) (start .pre)) in
+    (start .pre, (long, long))
 
 same-length : tie.Need-same-length
 same-length c = search needs
 
 returns : tie.Need-returns
-returns c =
-    let a = c .before .before .before .before .before .before .before .before .before .before .before .args in
-    let n = length (a .order .now) in
-    let key = pointKey (a .vertices .now) in
-    let keys = c .before .before .before .before .before .before .before .before .point-keys in
-    let found = c .before .before .before .sort in
-    let fits : n ≤ maxVertices = omega (arith, c .before .before .before .before .before .before .before .before .before .before .before .pre) in
-    let ordered : found .last .1 .0 ≡ inOrder key n = sorted-by-keys key (keys .last .1 .0) maxVertices n (keys .ensures .0) fits (found .last .1 .0) (found .ensures .0) in
-    let once : SortedBelow key n (found .last .1 .0) = subst (λ (l : List ℕ). SortedBelow key n l) (sym ordered) (sorted-below key n) in
-    (ordered, (once, sorted-by-point (a .vertices .now) n (found .last .1 .0) (λ v h. keys .ensures .1 v (omega arith)) once))
+returns c = search needs
 
 pub point-order-spec : {M : Type 1} → statement M
 point-order-spec =
     tie.close
     (tie.spec
-    slice-aggregate-point-keys
-    point-keys-requires
-    slice-aggregate-sort
-    slice-aggregate-sort-2
-    sort-requires
+    array-borrow-prefix-keys
+    slice-aggregate-sort-by-point
+    array-borrow-prefix-scratch
+    slice-aggregate-sort-by-point-2
+    sort-by-point-requires
     same-length
     returns)

@@ -3,8 +3,14 @@
 use std::{hint::black_box, time::Instant};
 use thawweasel_tests::{circles::Steps, first_repeat, open, paper, plain::Tables, read, search, sheets, sheets::Sheet, Random};
 
-/// How often each way takes its turn.
-const ROUNDS: usize = 31;
+/// How often each way takes its turn, and how often where one turn takes long.
+const ROUNDS: [usize; 2] = [31, 11];
+
+/// With more edges than this a turn takes long, and is one opening or one reading instead of four.
+const MANY: usize = 4_096;
+
+/// How far from 0 the coordinates of the sheets reach, before P5 and since.
+const REACHES: [i32; 2] = [1_000_000, 1_000_000_000];
 
 /// A way of doing one piece of work.
 type Way<'a> = Box<dyn FnMut() + 'a>;
@@ -24,10 +30,21 @@ fn shown(seconds: f64) -> String {
     }
 }
 
+/// Whether a sheet has many edges.
+fn is_large(s: &Sheet) -> bool {
+    s.edges.len() / 4 > MANY
+}
+
+/// A sheet as a row names it: its number of edges, and the power of ten that its coordinates keep within.
+fn named(s: &Sheet) -> String {
+    let far = s.vertices.iter().map(|c| c.unsigned_abs()).max().expect("a vertex");
+    format!("{} | 10^{}", s.edges.len() / 4, (far - 1).ilog10() + 1)
+}
+
 /// Times the proved way, the plain one and brute force in turn, each with the number of calls that it makes, and prints a row.
-fn row(name: &str, mut ways: [(usize, Way); 3]) {
+fn row(name: &str, rounds: usize, mut ways: [(usize, Way); 3]) {
     let mut times = [const { Vec::new() }; 3];
-    for round in 0..=ROUNDS {
+    for round in 0..=rounds {
         for (way, (calls, run)) in ways.iter_mut().enumerate() {
             let start = Instant::now();
             run();
@@ -66,12 +83,12 @@ fn opening(s: &Sheet, cleared: bool) {
     assert_eq!((open(s, &mut index[0]), t.open(&mut index[1])), ([0, 0], [0, 0]));
     assert_eq!(index[0], index[1]);
     assert_eq!(index[0], paper::index(s));
-    let lent = vec![0; s.need()];
+    let (lent, calls) = (vec![0; s.need()], if is_large(s) { 1 } else { 4 });
     let [ours, theirs] = &mut index;
-    let name = format!("open | {} | | {}", s.edges.len() / 4, words(cleared));
-    row(&name, [
-        (4, Box::new(|| (0..4).for_each(|_| assert_eq!(black_box(open(s, ready(ours, cleared))), [0, 0])))),
-        (4, Box::new(|| (0..4).for_each(|_| assert_eq!(black_box(t.open(ready(theirs, cleared))), [0, 0])))),
+    let name = format!("open | {} | | {}", named(s), words(cleared));
+    row(&name, ROUNDS[is_large(s) as usize], [
+        (calls, Box::new(|| (0..calls).for_each(|_| assert_eq!(black_box(open(s, ready(ours, cleared))), [0, 0])))),
+        (calls, Box::new(|| (0..calls).for_each(|_| assert_eq!(black_box(t.open(ready(theirs, cleared))), [0, 0])))),
         (1, Box::new(|| assert_eq!(black_box(paper::open(s, &lent)).0, [0, 0]))),
     ]);
 }
@@ -87,9 +104,9 @@ fn each<T>(points: &[(i32, i32)], mut call: impl FnMut(i32, i32) -> T) {
 fn reading(s: &Sheet, kind: &str, points: &[(i32, i32)]) {
     let t = Tables::from(s);
     each(points, |x, y| assert_eq!(read(s, x, y), t.read(x, y)));
-    let (few, one) = (&points[..4], &points[..1]);
-    let name = format!("read | {} | {kind} | none", s.edges.len() / 4);
-    row(&name, [
+    let (few, one) = (&points[..if is_large(s) { 1 } else { 4 }], &points[..1]);
+    let name = format!("read | {} | {kind} | none", named(s));
+    row(&name, ROUNDS[is_large(s) as usize], [
         (few.len(), Box::new(|| each(few, |x, y| read(s, x, y)))),
         (few.len(), Box::new(|| each(few, |x, y| t.read(x, y)))),
         (one.len(), Box::new(|| each(one, |x, y| paper::read(s, x, y)))),
@@ -102,7 +119,7 @@ fn searching(s: &Sheet, kind: &str, points: &[(i32, i32)], cleared: bool) {
     let mut index = vec![0; s.need()];
     assert_eq!(open(s, &mut index), [0, 0]);
     let first = index[s.zones as usize];
-    let mut trails = [[0; 10]; 2];
+    let mut trails = [[0; paper::LONGEST_TRAIL]; 2];
     each(points, |x, y| {
         let out = search(s, &index, x, y, &mut trails[0]);
         assert_eq!(out, t.search(&index, x, y, &mut trails[1]));
@@ -111,8 +128,8 @@ fn searching(s: &Sheet, kind: &str, points: &[(i32, i32)], cleared: bool) {
     });
     let [ours, theirs] = &mut trails;
     let few = &points[..50];
-    let name = format!("search | {} | {kind} | {}", s.edges.len() / 4, words(cleared));
-    row(&name, [
+    let name = format!("search | {} | {kind} | {}", named(s), words(cleared));
+    row(&name, ROUNDS[0], [
         (points.len(), Box::new(|| each(points, |x, y| search(s, &index, x, y, ready(ours, cleared))))),
         (points.len(), Box::new(|| each(points, |x, y| t.search(&index, x, y, ready(theirs, cleared))))),
         (few.len(), Box::new(|| each(few, |x, y| t.place(first, x as i64, y as i64)))),
@@ -139,7 +156,7 @@ fn repeats(kind: &str, points: &[(i32, i32)]) {
     let s = Sheet { west: 0, east: 1, vertices, edges: vec![], zones: 1 };
     let (t, all) = (Tables::from(&s), Some(points.len() as u32));
     assert_eq!((first_repeat(&s.vertices), t.repeat(), t.repeat_by_pairs()), (all, None, None));
-    row(kind, [
+    row(&format!("{} | {kind}", points.len()), ROUNDS[0], [
         (20, Box::new(|| (0..20).for_each(|_| assert_eq!(first_repeat(black_box(&s.vertices)), all)))),
         (20, Box::new(|| (0..20).for_each(|_| assert_eq!(black_box(&t).repeat(), None)))),
         (4, Box::new(|| (0..4).for_each(|_| assert_eq!(black_box(&t).repeat_by_pairs(), None)))),
@@ -155,13 +172,12 @@ fn interleaved(points: &[(i32, i32)]) -> Vec<(i32, i32)> {
     [every_other(0), every_other(1)].concat()
 }
 
-/// Times the look for repeated points on 1,024 of them in several orders.
-fn repeats_in_orders(r: &mut Random) {
-    println!("\n| 1,024 points | proved | plain Rust | all pairs | proved / plain | proved / all pairs |");
-    println!("|---|---|---|---|---|---|");
-    let mut heights: Vec<i32> = (0..1024).map(|k| 1_900 * (k - 512) + r.below(1_900) as i32).collect();
+/// Times the look for repeated points on so many of them in several orders.
+fn repeats_in_orders(r: &mut Random, count: i32, reach: i32) {
+    let step = 2 * reach / count;
+    let mut heights: Vec<i32> = (0..count).map(|k| step * (k - count / 2) + r.below(step as u64) as i32).collect();
     (1..heights.len()).for_each(|k| heights.swap(k, r.below(k as u64 + 1) as usize));
-    let random: Vec<_> = heights.iter().map(|&y| (r.between(-1_000_000, 1_000_000) as i32, y)).collect();
+    let random: Vec<_> = heights.iter().map(|&y| (r.between(-reach as i64, reach as i64) as i32, y)).collect();
     let mut sorted = random.clone();
     sorted.sort();
     let reversed: Vec<_> = sorted.iter().rev().copied().collect();
@@ -179,7 +195,7 @@ fn repeats_in_orders(r: &mut Random) {
 /// Times opening where it refuses 13 after a long look for circles, beside opening where the same edges have no circle, and beside the
 /// closure of all steps.
 fn circles() {
-    let (s, alike) = (sheets::circle_at_the_top(), sheets::circle_undone());
+    let (s, alike) = (sheets::circle_at_the_top(1_024), sheets::circle_undone(1_024));
     let (bad, good) = (Tables::from(&s), Tables::from(&alike));
     let (mut index, named) = (vec![0; s.need()], Steps::of(&s.edges, s.zones).named().expect("a circle"));
     assert_eq!((open(&s, &mut index), bad.open(&mut index)), ([13, named], [13, named]));
@@ -190,37 +206,47 @@ fn circles() {
     println!("|---|---|---|---|---|---|");
     let (mut ours, mut theirs) = (index.clone(), index.clone());
     let closure = || assert_eq!(black_box(Steps::of(&s.edges, s.zones)).named(), Some(named));
-    row("open, proved", [
+    row("open, proved", ROUNDS[0], [
         (4, Box::new(|| (0..4).for_each(|_| assert_eq!(black_box(open(&s, &mut ours))[0], 13)))),
         (4, Box::new(|| (0..4).for_each(|_| assert_eq!(black_box(open(&alike, &mut theirs)), [0, 0])))),
         (1, Box::new(closure)),
     ]);
     let (mut ours, mut theirs) = (index.clone(), index);
-    row("open, plain Rust", [
+    row("open, plain Rust", ROUNDS[0], [
         (4, Box::new(|| (0..4).for_each(|_| assert_eq!(black_box(bad.open(&mut ours))[0], 13)))),
         (4, Box::new(|| (0..4).for_each(|_| assert_eq!(black_box(good.open(&mut theirs)), [0, 0])))),
         (1, Box::new(closure)),
     ]);
-    println!("\nThe look for circles takes {steps} steps there (zones gone through, and edges over them), {:.2} of n x m.", steps as f64 / (n * m) as f64);
+    let share = steps as f64 / (n * m) as f64;
+    println!("\nThe look for circles takes {steps} steps there (zones gone through, and edges over them), {share:.2} of n x m.");
+}
+
+/// Times the three calls on a sheet, at points anywhere and at points of a walk.
+fn calls(r: &mut Random, s: &Sheet) {
+    let (random, coherent) = (anywhere(r, s, 1_000), walk(r, s, 1_000));
+    for (kind, points) in [("random", &random), ("coherent", &coherent)] {
+        searching(s, kind, points, false);
+        searching(s, kind, points, true);
+    }
+    for (kind, points) in [("random", &random[..20]), ("coherent", &coherent[..20])] {
+        reading(s, kind, points);
+    }
+    opening(s, false);
+    opening(s, true);
 }
 
 fn main() {
     let mut r = Random::new("bench", 21);
-    println!("| call | edges | points | lent words | proved | plain Rust | brute force | proved / plain | proved / brute |");
-    println!("|---|---|---|---|---|---|---|---|---|");
-    for size in [128, 1024] {
-        let s = sheets::accepted(&mut r, size, size, size);
-        let (random, coherent) = (anywhere(&mut r, &s, 1_000), walk(&mut r, &s, 1_000));
-        for (kind, points) in [("random", &random), ("coherent", &coherent)] {
-            searching(&s, kind, points, false);
-            searching(&s, kind, points, true);
-        }
-        for (kind, points) in [("random", &random[..20]), ("coherent", &coherent[..20])] {
-            reading(&s, kind, points);
-        }
-        opening(&s, false);
-        opening(&s, true);
+    println!("| call | edges | reach | points | lent words | proved | plain Rust | brute force | proved / plain | proved / brute |");
+    println!("|---|---|---|---|---|---|---|---|---|---|");
+    calls(&mut r, &sheets::lens());
+    for (size, reach) in [(128, REACHES[0]), (1_024, REACHES[0]), (4_000, REACHES[0]), (4_000, REACHES[1])] {
+        let s = sheets::spread(&mut r, reach, size);
+        calls(&mut r, &s);
     }
-    repeats_in_orders(&mut r);
+    println!("\n| points | order | proved | plain Rust | all pairs | proved / plain | proved / all pairs |");
+    println!("|---|---|---|---|---|---|---|");
+    repeats_in_orders(&mut r, 1_024, REACHES[0]);
+    repeats_in_orders(&mut r, 4_096, REACHES[1]);
     circles();
 }

@@ -1,6 +1,6 @@
 //! What the program prints for a page, by plain means: reads the page on standard input and prints its answers.
+use evaluate::pages;
 use std::io::{self, Read};
-use thawweasel_tests::pages;
 
 fn main() -> io::Result<()> {
     let mut page = vec![];

@@ -1,0 +1,13 @@
+-- The limits are handed on.
+use borrow.Author.Needs.{needs}
+use Rattle.counts.proofs.counts_held.Statement.{statement}
+use Rattle.counts.proofs.counts_held.Tie as tie
+
+at-most-requires : tie.Need-at-most-requires
+at-most-requires c κs = search needs
+
+returns : tie.Need-returns
+returns c = c .at-most .ensures
+
+pub counts-held-spec : {M : Type 1} → statement M
+counts-held-spec = tie.close (tie.spec at-most-requires returns)
