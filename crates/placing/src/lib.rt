@@ -16,6 +16,7 @@ ghost use mathlib.Core.Bool.{false};
 ghost use Prim.Native.Nat.{ℕ, _*_, _≤_};
 ghost use lib.ListN.{length, take};
 ghost use Rattle.io.specs.Counts.{Counts};
+ghost use Rattle.subdivision.specs.Limits.{programLimits};
 ghost use Rattle.subdivision.specs.Formula.{holds};
 ghost use Rattle.subdivision.specs.Lists.{put};
 ghost use Rattle.subdivision.specs.Layout.{indexNeed};
@@ -71,7 +72,7 @@ fn place_read(
     text: &mut [u8],
 ) -> usize
     requires { ⌜ (length (now page) ≤ maxPage) × (maxText ≤ length (now text)) ⌝ }
-    requires { ⌜ (2048 ≤ length (now vertices)) × ((8192 ≤ length (now edges)) × ((6900 ≤ length (now points)) × ((5121 ≤ length (now index)) × (holds (headBeyond (now page)) ≡ false)))) ⌝ }
+    requires { ⌜ (2 * programLimits .vertices ≤ length (now vertices)) × ((4 * programLimits .edges ≤ length (now edges)) × ((6900 ≤ length (now points)) × ((indexNeed (programLimits .zones) (programLimits .edges) ≤ length (now index)) × (holds (headBeyond (now page)) ≡ false)))) ⌝ }
     ensures { λ r. ⌜ r ≡ length (placedText (now (page .entry))) ⌝ }
     ensures { λ _. ⌜ now (text .exit) ≡ put (placedText (now (page .entry))) (now (text .entry)) ⌝ }
 {
