@@ -1,10 +1,12 @@
 // The worked cases of document 01, a line each: the lens's points searched, the worked sheets opened,
-// and the lens's points read; lca, top bits, and on the lens sheet the order from west to
+// sheets at the limits opened, and the lens's points read; lca, top bits, and on the lens sheet the order from west to
 // east, the side of each covering edge at the seven points, and rule 4; then rule 4 broken.
+mod limits;
 mod openings;
 mod readings;
 mod searches;
 
+use crate::limits::limits;
 use crate::openings::openings;
 use crate::readings::readings;
 use crate::searches::searches;
@@ -169,6 +171,7 @@ fn points() {
 fn main() {
     searches();
     openings();
+    limits();
     readings();
     lca(0, 11);
     lca(7, 9);

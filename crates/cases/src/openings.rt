@@ -3,8 +3,6 @@ use crate::LENT;
 use crate::VERTICES;
 use crate::number;
 use crate::text;
-use subdivision::MAX_EDGES;
-use subdivision::MAX_VERTICES;
 use subdivision::Verdict;
 
 // The lens sheet with the x of vertex 3 at 1,000,000,000.
@@ -350,85 +348,9 @@ fn blanks() {
     );
 }
 
-fn limits() {
-    let vertices = VERTICES;
-    let edges = [0u32; 4 * MAX_EDGES + 4];
-    let mut first = [LENT; 8];
-    opened(b"8,193 edges:", 0, 4, &vertices, &edges, 3, &mut first);
-    let mut standing = [LENT; 8];
-    let most = 4 * MAX_EDGES;
-    opened(
-        b"8,192 edges, 8 words:",
-        0,
-        4,
-        &vertices,
-        &edges[..most],
-        3,
-        &mut standing,
-    );
-    let mut second = [LENT; 8];
-    opened(
-        b"five words of edges:",
-        0,
-        4,
-        &vertices,
-        &edges[..5],
-        3,
-        &mut second,
-    );
-}
-
-fn counts() {
-    let vertices = [0i32; 2 * MAX_VERTICES + 2];
-    let edges = [0u32; 4];
-    let mut first = [LENT; 8];
-    opened(
-        b"4,097 zones:",
-        0,
-        4,
-        &vertices[..0],
-        &edges[..0],
-        4097,
-        &mut first,
-    );
-    let mut second = [LENT; 8];
-    opened(
-        b"4,096 zones, 8 words:",
-        0,
-        4,
-        &vertices[..0],
-        &edges[..0],
-        4096,
-        &mut second,
-    );
-    let mut third = [LENT; 8];
-    opened(
-        b"4,097 vertices:",
-        0,
-        4,
-        &vertices,
-        &edges[..0],
-        1,
-        &mut third,
-    );
-    let most = 2 * MAX_VERTICES;
-    let mut fourth = [LENT; 3];
-    opened(
-        b"4,096 vertices, 3 words:",
-        0,
-        4,
-        &vertices[..most],
-        &edges[..0],
-        1,
-        &mut fourth,
-    );
-}
-
 // The worked sheets of document 01, and a wedge for rule 5's western clause.
 pub(crate) fn openings() {
     lenses();
     twins();
     blanks();
-    limits();
-    counts();
 }

@@ -24,7 +24,7 @@ use Rattle.theory.proofs.CircleZones.{opening-circle}
 use Rattle.theory.proofs.Earlier.{opening-as-before, given-as-before}
 use Rattle.theory.proofs.Faults.{opened-exactly, refused-exactly}
 use Rattle.theory.proofs.HeldIndex.{words-long, written-holds}
-use Rattle.theory.proofs.WithinLimits.{opened-as-signed}
+use Rattle.theory.proofs.Signed.{opened-as-signed}
 
 module _ (s : Sheet) (index : List ℕ) where
   -- the promises of a verdict and the words left, in the order of the contract

@@ -31,7 +31,7 @@ use Rattle.theory.proofs.Judgement.{judged-append, none-named, accepted-decides
 use Rattle.theory.proofs.CircleZones.{reading-circle}
 use Rattle.theory.proofs.Earlier.{reading-as-before, given-as-before}
 use Rattle.theory.proofs.Faults.{reading-refused-exactly}
-use Rattle.theory.proofs.WithinLimits.{read-as-signed}
+use Rattle.theory.proofs.Signed.{read-as-signed}
 use Rattle.theory.proofs.OneThing.{by-plain, one-thing, accepted-reads}
 use Rattle.theory.proofs.Readings.{zones-agree, read-so}
 use Rattle.scans.specs.Scans.{vertexAt, edgeOn, edgeBeneath, zoneFrom, placed}

@@ -27,7 +27,7 @@ use Rattle.theory.proofs.Decide.{held, fails}
 use Rattle.theory.proofs.Judgement.{refused-first, passed-first, none-named}
 use Rattle.theory.proofs.SearchRefusals.{search-refused-exactly, refused-leaves}
 use Rattle.theory.proofs.ThirdDemand.{search-bounded, third-demand}
-use Rattle.theory.proofs.WithinLimits.{searched-as-signed}
+use Rattle.theory.proofs.Signed.{searched-as-signed}
 use Rattle.descent.specs.Steps.{foundBy, trailOf}
 
 module _ (s : Sheet) (index : List ℕ) (x y : ℤ) (lent : List ℕ) where

@@ -64,6 +64,7 @@ pub mod Shift
 pub mod SideViews
 pub mod Sides
 pub mod Sights
+pub mod Signed
 pub mod Tables
 pub mod Tally
 pub mod ThirdDemand

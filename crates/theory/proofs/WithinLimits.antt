@@ -1,8 +1,7 @@
--- A sheet that is within two limits is judged, opened, read and searched alike under both: P5 left sheets signed for earlier as they were.
+-- A sheet that is within two limits is judged, opened, read and searched alike under both.
 use mathlib.Core.Path.{_≡_, refl, sym, ap, _∙_}
-use mathlib.Core.Bool.{Bool, true, false, not, false≢true}
+use mathlib.Core.Bool.{Bool, true, false, not}
 use mathlib.Core.List.{List, [], _∷_, _++_}
-use mathlib.Core.Logic.{_⊎_, inl, inr, ⊎-elim}
 use Prim.Native.Nat.{ℕ, zero, suc, _+_, _*_, _%_, _<_}
 use native.Mathlib.Nat.{add-zero}
 use native.Mathlib.Omega.{arith}
@@ -14,7 +13,7 @@ use Rattle.subdivision.specs.declared.Verdict.{Verdict}
 use Rattle.subdivision.specs.declared.Verdict.the-variants.{Passed, Refused}
 use Rattle.subdivision.specs.declared.Look.the-variants.{Faulty, West, Covering, Beyond}
 use Rattle.subdivision.specs.declared.Probed.the-variants.{Covered, Missing}
-use Rattle.subdivision.specs.Limits.{Limits, limits, earlierLimits}
+use Rattle.subdivision.specs.Limits.{Limits}
 use Rattle.subdivision.specs.Formula.{Formula, isLess, isAtMost, isEqual, both, everyUnder, holds}
 use Rattle.subdivision.specs.Lists.{put}
 use Rattle.subdivision.specs.Sheet.{Sheet, shifted, westMargin, eastMargin, vertexCount, edgeCount, zoneCount, xOf, yOf, westOf, eastOf, segment}
@@ -26,10 +25,10 @@ use Rattle.subdivision.specs.Faults.{openingRefusalsUnder, tableRefusalsUnder, 
 use Rattle.subdivision.specs.Index.{indexWords}
 use Rattle.subdivision.specs.Descent.{LookUps, Descent, Turn, onward, answered, damaged, breaks, entrySoundUnder, startsSound, look, probe, probeChain, examined, examine, arrived, turn, turns, start, descent, toChain, indexLookUpsUnder, indexDescentUnder}
 use Rattle.subdivision.specs.Dyadic.{leftSon, rightSon}
-use Rattle.subdivision.specs.Calls.{Opened, Searched, searchRefused, searchEnded, openingUnder, opening, readingUnder, reading, searchingUnder, searching}
-use Rattle.subdivision.specs.Signed.{InRangeUnder, Within, WasBeyond, OpenedAsSigned, ReadAsSigned, SearchedAsSigned}
-use Rattle.theory.proofs.Decide.{means, held, fails, decided, both-goes-on}
-use Rattle.theory.proofs.Judgement.{passed-keeps, refused-first, passed-first, none-named, judged-unnamed-broken}
+use Rattle.subdivision.specs.Calls.{searchRefused, searchEnded, openingUnder, readingUnder, searchingUnder}
+use Rattle.subdivision.specs.Signed.{InRangeUnder, Within}
+use Rattle.theory.proofs.Decide.{means, held, both-goes-on}
+use Rattle.theory.proofs.Judgement.{none-named}
 use Rattle.theory.proofs.Lowest.{lowest-same}
 use Rattle.theory.proofs.Probes.{probe-same}
 
@@ -71,10 +70,6 @@ each-same : (number items : ℕ) (p q : ℕ → Formula) (rs : List Refusal) →
 each-same number items p q rs f =
     judged-same (forEach number items p) (forEach number items q) rs rs refl (every-same items (λ k. holds (p k)) (λ k. holds (q k)) f)
     (lowest-same (λ k. not (holds (p k))) (λ k. not (holds (q k))) items (λ k h. ap not (f k h))) refl
-
--- a number in range as it was is in range
-wide : (c : ℕ) → InRangeUnder earlierLimits c → InRangeUnder limits c
-wide c h = omega (arith, h)
 
 module _ (s : Sheet) (l m : Limits) (a : Within l s) (b : Within m s) where
   -- a number in range under both limits
@@ -128,7 +123,7 @@ module _ (s : Sheet) (l m : Limits) (a : Within l s) (b : Within m s) where
       between = both (isAtMost (westMargin s) x) (isAtMost x (eastMargin s))
 
   -- lines after refusals 1 and 2, in both
-  limits-same : (rs qs : List Refusal) → judged rs ≡ judged qs → judged (limitRefusalsUnder l s ++ rs) ≡ judged (limitRefusalsUnder m s ++ qs)
+  pub limits-same : (rs qs : List Refusal) → judged rs ≡ judged qs → judged (limitRefusalsUnder l s ++ rs) ≡ judged (limitRefusalsUnder m s ++ qs)
   limits-same rs qs rest =
       unnamed-same 1 (countsKeptUnder l s) (countsKeptUnder m s) (unnamed 2 (marginsKeptUnder l s) ∷ rs) (unnamed 2 (marginsKeptUnder m s) ∷ qs) counts-same
       (unnamed-same 2 (marginsKeptUnder l s) (marginsKeptUnder m s) rs qs margins-same rest)
@@ -136,7 +131,7 @@ module _ (s : Sheet) (l m : Limits) (a : Within l s) (b : Within m s) where
   rules-same : judged (ruleRefusalsUnder s l) ≡ judged (ruleRefusalsUnder s m)
   rules-same = each-same 4 (vertexCount s) (vertexInsideUnder l s) (vertexInsideUnder m s) (drop 1 (ruleRefusalsUnder s l)) inside-same
 
-  tables-same : judged (tableRefusalsUnder l s) ≡ judged (tableRefusalsUnder m s)
+  pub tables-same : judged (tableRefusalsUnder l s) ≡ judged (tableRefusalsUnder m s)
   tables-same = limits-same (ruleRefusalsUnder s l) (ruleRefusalsUnder s m) rules-same
 
   opening-same : (words : ℕ) → judged (openingRefusalsUnder l s words) ≡ judged (openingRefusalsUnder m s words)
@@ -257,97 +252,3 @@ module _ (s : Sheet) (l m : Limits) (a : Within l s) (b : Within m s) where
         | Refused number item ↦ searchRefused number item trail
         | Passed ↦ searchEnded (descent-same index (shifted x) (shifted y) i) trail
       ]
-
--- the limits are wider than they were
-pub wider : (s : Sheet) → Within earlierLimits s → Within limits s
-wider s a =
-    record {
-      vertices = omega (arith, a .vertices);
-      edges = omega (arith, a .edges);
-      zones = omega (arith, a .zones);
-      west = wide (westMargin s) (a .west);
-      east = wide (eastMargin s) (a .east);
-      inside = λ v h. (wide (xOf s v) (a .inside v h .0), wide (yOf s v) (a .inside v h .1));
-    }
-
--- a sheet that opening passed before P5 was within the limits as they were
-pub signed-within : (s : Sheet) (index : List ℕ) → openingUnder earlierLimits s index .verdict ≡ Passed → Within earlierLimits s
-signed-within s index e =
-    let k = passed-keeps lines (go (judged lines) refl e) in
-    record { vertices = k .0 .1 .0 .0; edges = k .0 .1 .0 .1; zones = k .0 .1 .1 .1; west = k .1 .0 .0 .0; east = k .1 .0 .0 .1; inside = λ v h. k .1 .1 .1 .0 v h .0 }
-  where
-    lines : List Refusal
-    lines = openingRefusalsUnder earlierLimits s (length index)
-
-    -- what opening leaves, from what its lines say
-    given : Verdict → Opened
-    given v =
-        elim v [ Passed ↦ record { verdict = Passed; index = put (indexWords s) index } | Refused number item ↦ record { verdict = Refused number item; index = index } ]
-
-    go : (v : Verdict) → judged lines ≡ v → given v .verdict ≡ Passed → judged lines ≡ Passed
-    go Passed p q = p
-    go (Refused number item) p q = absurd (false≢true cc)
-
-module _ (s : Sheet) where
-  pub opened-as-signed : (index : List ℕ) → OpenedAsSigned s index (opening s index .verdict) (opening s index .index)
-  unfolding opening
-  opened-as-signed index a =
-      let same = opened-same s limits earlierLimits (wider s a) a index in
-      (ap (λ (o : Opened). o .verdict) same, ap (λ (o : Opened). o .index) same)
-
-  pub read-as-signed : (x y : ℤ) → ReadAsSigned s x y (reading s x y)
-  unfolding reading
-  read-as-signed x y a = ⊎-elim (λ h. inl (read-same s limits earlierLimits (wider s a) a x y (wide (shifted y) h) h)) beyond (decided (inRangeUnder earlierLimits (shifted y)))
-    where
-      beyond : (InRangeUnder earlierLimits (shifted y) → ⊥) → (readingUnder limits s x y ≡ readingUnder earlierLimits s x y) ⊎ WasBeyond y (readingUnder earlierLimits s x y)
-      beyond f = go (judged (tableRefusalsUnder earlierLimits s)) refl
-        where
-          off : holds (onSheetUnder s earlierLimits (shifted x) (shifted y)) ≡ false
-          off = fails (onSheetUnder s earlierLimits (shifted x) (shifted y)) (λ o. f (o .1))
-
-          go : (v : Verdict) → judged (tableRefusalsUnder earlierLimits s) ≡ v → (readingUnder limits s x y ≡ readingUnder earlierLimits s x y) ⊎ WasBeyond y (readingUnder earlierLimits s x y)
-          go Passed e = inr (f, rw (e, off, readingUnder))
-          go (Refused number item) e =
-              let now : judged (tableRefusalsUnder limits s) ≡ Refused number item = tables-same s limits earlierLimits (wider s a) a ∙ e in
-              inl (rw (now, readingUnder) (sym (rw (e, readingUnder))))
-
-  pub searched-as-signed : (index : List ℕ) (x y : ℤ) (trail : List ℕ)
-      → SearchedAsSigned s index x y trail (searching s index x y trail .found) (searching s index x y trail .trail)
-  unfolding searching
-  searched-as-signed index x y trail a =
-      ⊎-elim (λ h. inl (alike (searched-same s limits earlierLimits (wider s a) a index x y trail (wide (shifted y) h) h))) beyond (decided (inRangeUnder earlierLimits (shifted y)))
-    where
-      before : Searched
-      before = searchingUnder earlierLimits s index x y trail
-
-      Kept : Type 0
-      Kept = ((searchingUnder limits s index x y trail .found ≡ before .found) × (searchingUnder limits s index x y trail .trail ≡ before .trail)) ⊎ WasBeyond y (before .found .answer)
-
-      alike : searchingUnder limits s index x y trail ≡ before
-          → (searchingUnder limits s index x y trail .found ≡ before .found) × (searchingUnder limits s index x y trail .trail ≡ before .trail)
-      alike e = (ap (λ (r : Searched). r .found) e, ap (λ (r : Searched). r .trail) e)
-
-      -- the lines before refusal 20
-      first : Limits → List Refusal
-      first l = limitRefusalsUnder l s ++ (roomRefusal s (length index) ∷ [])
-
-      -- refusals 20 and 21
-      last : Limits → List Refusal
-      last l = unnamed 20 (onSheetUnder s l (shifted x) (shifted y)) ∷ unnamed 21 (trailRoom s (length trail)) ∷ []
-
-      first-same : judged (first limits) ≡ judged (first earlierLimits)
-      first-same =
-          limits-same s limits earlierLimits (wider s a) a (roomRefusal s (length index) ∷ []) (roomRefusal s (length index) ∷ []) refl
-
-      beyond : (InRangeUnder earlierLimits (shifted y) → ⊥) → Kept
-      beyond f = go (judged (first earlierLimits)) refl
-        where
-          off : judged (last earlierLimits) ≡ Refused 20 0
-          off = judged-unnamed-broken 20 (onSheetUnder s earlierLimits (shifted x) (shifted y)) (unnamed 21 (trailRoom s (length trail)) ∷ []) (fails (onSheetUnder s earlierLimits (shifted x) (shifted y)) (λ o. f (o .1)))
-
-          go : (v : Verdict) → judged (first earlierLimits) ≡ v → Kept
-          go Passed e = inr (f, rw (passed-first (first earlierLimits) (last earlierLimits) e ∙ off, searchingUnder))
-          go (Refused number item) e =
-              let was = refused-first (first earlierLimits) (last earlierLimits) number item e in
-              let now = refused-first (first limits) (last limits) number item (first-same ∙ e) in
-              inl (alike (rw (now, searchingUnder) (sym (rw (was, searchingUnder)))))
