@@ -4,12 +4,12 @@ use Prim.Native.Nat.{ℕ, _+_, _*_, _-_, _≤_}
 use native.Mathlib.Nat.{mul-le-mul-right}
 use native.Mathlib.Omega.{arith}
 use Rattle.subdivision.specs.declared.Segment.{Segment}
-use Rattle.subdivision.specs.Limits.{highestCoordinate}
+use Rattle.subdivision.specs.Limits.{reach, highestCoordinate}
 use Rattle.subdivision.specs.Lines.{pointPart, edgePart}
 use Rattle.geometry.specs.Bounds.{largestPart, PartsBounded}
 
 -- two coordinates by numbers that come to no more than the widest edge
-products-bounded : (a b u v : ℕ) → a ≤ highestCoordinate → b ≤ highestCoordinate → u + v ≤ 2000000000 → a * u + b * v ≤ largestPart
+products-bounded : (a b u v : ℕ) → a ≤ highestCoordinate → b ≤ highestCoordinate → u + v ≤ 2 * reach → a * u + b * v ≤ largestPart
 products-bounded a b u v h k w =
     let p : a * u ≤ highestCoordinate * u = mul-le-mul-right u h in
     let q : b * v ≤ highestCoordinate * v = mul-le-mul-right v k in

@@ -1,16 +1,21 @@
--- How large the products of the side test become: document 02, P5, on sheets with coordinates from -1,000,000,000 to 1,000,000,000.
+-- How large the two parts of the side test become on a sheet: document 02, P5.
 use mathlib.Core.Path.{_≡_, refl}
-use Prim.Native.Nat.{ℕ, _*_, _≤_}
+use Prim.Native.Nat.{ℕ, _*_, _^_, _<_, _≤_}
+use native.Mathlib.Omega.{arith}
 use Rattle.subdivision.specs.declared.Segment.{Segment}
 use Rattle.subdivision.specs.Limits.{reach, highestCoordinate}
 use Rattle.subdivision.specs.Accepted.{InRange}
 
--- the highest coordinate, shifted, by the width of the widest edge: below 2^63 = 9,223,372,036,854,775,808
+-- the highest coordinate, shifted, by the width of the widest edge
 abbrev pub largestPart : ℕ
-largestPart = 6294967296000000000
+largestPart = highestCoordinate * (2 * reach)
 
-pub largest-part-is : highestCoordinate * (2 * reach) ≡ largestPart
+pub largest-part-is : largestPart ≡ 6294967296000000000
 largest-part-is = refl
+
+-- it leaves a bit of 64 free
+pub largest-part-fits : largestPart < 2 ^ 63
+largest-part-fits = omega arith
 
 -- the ends of an edge are in range
 abbrev pub EndsInRange : Segment → Type 0
