@@ -26,6 +26,8 @@ bits_of_value f (fin t m e) s a c C v =
     let l = 2 ^ low f in
     let cross : m * up e * l * c ≡ a * l * down e = mul_right_comm (m * up e) l c ∙ ap (λ (z : ℕ). z * l) v.1 ∙ mul_right_comm a (down e) l in
     ap (λ (z : Bool). written f z (m * up e * l / down e)) v.0 ∙ ap (written f s) (div_same (m * up e * l) (down e) (a * l) c (down_pos e) C cross)
+bits_of_value f nan s a c C v = elim v [ ]
+bits_of_value f (inf _) s a c C v = elim v [ ]
 
 -- two values that the format holds, of one sign and one size, are one value
 value_unique : (f : Format) (x y : Float) (s : Bool) (a c : ℕ) → 0 < c → T (fits f x) → T (fits f y) → HasValue x s a c → HasValue y s a c → x ≡ y
