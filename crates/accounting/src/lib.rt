@@ -1,1 +1,2 @@
 // Laws of the monthly ledger and of its floats, with no functions.
+#![tactic(auto)]

@@ -1,4 +1,6 @@
 // The lines of answers as text: a kind and a number, or a refusal.
+#![tactic(auto)]
+
 ghost use Rattle.std.specs.Prelude.{◌≡◌, ◌+◌, ◌≤◌, length};
 ghost use Rattle.subdivision.specs.Lists.{over};
 ghost use Rattle.frames.specs.Placing.{numbered, refused_text, answer_text};

@@ -1,6 +1,8 @@
 // The worked cases of document 01, a line each: the lens's points searched, the worked sheets opened,
 // sheets at the limits opened, and the lens's points read; lca, top bits, and on the lens sheet the order from west to
 // east, the side of each covering edge at the seven points, and rule 4; then rule 4 broken.
+#![tactic(auto)]
+
 mod limits;
 mod openings;
 mod readings;

@@ -1,4 +1,6 @@
 // The zones on circles: the lowest zone from which steps from below to above lead back to it.
+#![tactic(auto)]
+
 mod steps;
 
 ghost use Rattle.std.specs.Prelude.{◌≡◌, suc, ◌<◌, ◌≤◌, ◌/◌, length, replicate};

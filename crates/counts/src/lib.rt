@@ -1,5 +1,7 @@
 // Refusal 1's limits: how many vertices, edges and zones a sheet may have, how many a program with fixed buffers holds, and tables of
 // whole records.
+#![tactic(auto)]
+
 ghost use Rattle.std.specs.Prelude.{◌≡◌, pos};
 ghost use Rattle.subdivision.specs.Limits.{program_limits, count_limits};
 ghost use Rattle.subdivision.specs.Formula.{holds};

@@ -1,4 +1,6 @@
 // The published descent over the words of a lent index, each judged as it is read.
+#![tactic(auto)]
+
 ghost use Rattle.std.specs.Prelude.{◌≡◌, List, ℕ, ◌+◌, ◌-◌, ◌≤◌, ◌<◌, ◌/◌, pos, length, take};
 ghost use Rattle.subdivision.specs.declared.Answer.{Answer};
 ghost use Rattle.subdivision.specs.Limits.{max_edges, max_zones};
@@ -18,7 +20,7 @@ use subdivision::{Answer, Found, MAX_EXAMINED, Probed, Side};
 use tables::{known_above, known_below, known_segment, segment};
 
 // The state of a descent: the places i and j, the chain k, and the numbers of edges examined and of probes.
-#[derive(Drop)]
+#[derive(Clone, Copy)]
 pub struct Descent {
     pub i: u32,
     pub j: u32,
@@ -28,7 +30,7 @@ pub struct Descent {
 }
 
 // What a step of a descent leads to.
-#[derive(Drop)]
+#[derive(Clone, Copy)]
 pub enum Step {
     // To a son; no edge is examined.
     Son(Descent),

@@ -1,5 +1,7 @@
 // The C ABI: the calls for tests and for programs in other languages. A `&[T]` is a pointer and
 // then a length. What a caller owes (valid pointers, no overlap) no proof covers.
+#![tactic(auto)]
+
 ghost use Rattle.std.specs.Prelude.{◌≡◌};
 ghost use Rattle.subdivision.specs.Sheet.{sheet_of};
 ghost use Rattle.subdivision.specs.Answers.{answer_values, found_values, verdict_values};

@@ -1,4 +1,6 @@
 // Rule 5, names agree: refusal 11.
+#![tactic(auto)]
+
 ghost use Rattle.std.specs.Prelude.{◌≡◌, not, true, false, ℕ, ◌+◌, ◌-◌, ◌<◌, ◌≤◌, ◌/◌, length, get_or};
 ghost use Rattle.subdivision.specs.Limits.{max_vertices, max_edges};
 ghost use Rattle.subdivision.specs.Formula.{holds};

@@ -1,5 +1,6 @@
 // Document 02, P1, as types: what stands at a place of a page, and the answers of its reader, its writer and the program. The
 // definitions over them are in specs/.
+#![tactic(auto)]
 
 // The program reads a page of at most so many bytes.
 pub const MAX_PAGE: usize = 65536;
@@ -8,7 +9,7 @@ pub const MAX_PAGE: usize = 65536;
 pub const MAX_TEXT: usize = 131072;
 
 // What stands at a place of a page.
-#[derive(Drop)]
+#[derive(Clone, Copy)]
 pub enum Line {
     // A frame: its kind, and the place past its newline.
     Frame(u32, usize),
@@ -21,7 +22,7 @@ pub enum Line {
 }
 
 // The numbers of a head.
-#[derive(Drop)]
+#[derive(Clone, Copy)]
 pub struct Head {
     pub west: i32,
     pub east: i32,
@@ -31,7 +32,7 @@ pub struct Head {
 }
 
 // What a judgement says of a page.
-#[derive(Drop)]
+#[derive(Clone, Copy)]
 pub enum Judged {
     // A good page, with so many points.
     Good(usize),
@@ -40,7 +41,7 @@ pub enum Judged {
 }
 
 // What reading a page gives back beside the tables.
-#[derive(Drop)]
+#[derive(Clone, Copy)]
 pub enum Page {
     // A sheet's head, and the number of points.
     Sheet(Head, usize),
@@ -49,7 +50,7 @@ pub enum Page {
 }
 
 // What writing a page gives back beside the text.
-#[derive(Drop)]
+#[derive(Clone, Copy)]
 pub enum Written {
     // So many bytes.
     Text(usize),

@@ -34,7 +34,7 @@ fn less(a: u32, b: u32) -> u64
 }
 
 // The two numbers whose difference is the signed number of document 01's formula.
-#[derive(Drop)]
+#[derive(Clone, Copy)]
 pub struct Scaled {
     pub point: u64,
     pub edge: u64,

@@ -1,4 +1,6 @@
 // The words of an index, made from a line of zones by one sort of the edges.
+#![tactic(auto)]
+
 ghost use Rattle.std.specs.Prelude.{◌≡◌, true, false, ◌++◌, ℕ, suc, ◌+◌, ◌<◌, ◌≤◌, ◌/◌, ltb, length, get_or, set};
 ghost use Rattle.subdivision.specs.Limits.{max_edges, max_zones};
 ghost use Rattle.subdivision.specs.Layout.{index_need};

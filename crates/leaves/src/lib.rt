@@ -1,5 +1,7 @@
 // Leaves under the C ABI, for the tests in tests/rust. A `&[T]` is a pointer and then a length. What a
 // caller owes (valid pointers, no overlap) no proof covers.
+#![tactic(auto)]
+
 ghost use Rattle.std.specs.Prelude.{◌≡◌, length, drop};
 ghost use Rattle.subdivision.specs.Formula.{holds};
 ghost use Rattle.subdivision.specs.Dyadic.{bits, top_bit, lca};

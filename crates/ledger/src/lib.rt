@@ -1,11 +1,12 @@
 // Document 02, P2, as types: a sample's reading, a zone's permit, what is entered for a zone, and the answers of a month. The
 // definitions over them are in specs/.
+#![tactic(auto)]
 
 // A month has at most so many samples.
 pub const MAX_SAMPLES: usize = 4096;
 
 // What a sample's reading is, in mg/L.
-#[derive(Drop)]
+#[derive(Clone, Copy)]
 pub enum Reading {
     NotTaken,
     // The value.
@@ -17,7 +18,7 @@ pub enum Reading {
 }
 
 // The permit of a zone, in mg/L: the line that its mean may not be over, and its detection floor.
-#[derive(Drop)]
+#[derive(Clone, Copy)]
 pub struct Permit {
     pub limit: f64,
     pub floor: f64,
@@ -25,7 +26,7 @@ pub struct Permit {
 
 // The readings entered for a zone: how many, how many of them below detection, and the sum of their values, which says nothing
 // where none is entered.
-#[derive(Drop)]
+#[derive(Clone, Copy)]
 pub struct Tally {
     pub count: u32,
     pub below: u32,
@@ -33,7 +34,7 @@ pub struct Tally {
 }
 
 // What a zone's month is: the mean, where there is one, against the limit.
-#[derive(Drop)]
+#[derive(Clone, Copy)]
 pub enum Judgement {
     NoMean,
     Within(f64),
@@ -41,7 +42,7 @@ pub enum Judgement {
 }
 
 // What a month gives back beside the lists, the zone results and the means.
-#[derive(Drop)]
+#[derive(Clone, Copy)]
 pub enum Month {
     // So many samples on a boundary, and so many off the sheet.
     Judged(u32, u32),

@@ -1,4 +1,6 @@
 // Rule 7: the line of zones, and the lowest zone that it does not place.
+#![tactic(auto)]
+
 mod words;
 
 ghost use Rattle.std.specs.Prelude.{◌≡◌, not, [], ℕ, suc, ◌<◌, ◌≤◌, ◌/◌, pos, length, get_or, set};

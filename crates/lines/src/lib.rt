@@ -1,5 +1,7 @@
 // A reader of the lines of a page: it holds the lent page and its place in it, and each of its functions is thin over `line_at`, which
 // takes a plain page and a place. Whoever calls `read_line` has no reader to prove anything of.
+#![tactic(auto)]
+
 ghost use Rattle.std.specs.Prelude.{◌≡◌};
 ghost use Rattle.frames.specs.Lines.{line_at};
 

@@ -1,4 +1,6 @@
 // The monthly ledger: the samples of a month are placed by the quick search, and each zone is judged by those that lie in it.
+#![tactic(auto)]
+
 ghost use Rattle.std.specs.Prelude.{◌≡◌, [], ◌↔◌, ℕ, ◌*◌, ◌≤◌, length};
 ghost use Rattle.subdivision.specs.Sheet.{sheet_of};
 ghost use Rattle.subdivision.specs.Faults.{GivenBy};

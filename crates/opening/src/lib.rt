@@ -1,4 +1,6 @@
 // Opening a sheet: the judgement, then the index.
+#![tactic(auto)]
+
 ghost use Rattle.std.specs.Prelude.{◌≡◌, ◌↔◌, ℕ, ◌≤◌, ◌/◌, length};
 ghost use Rattle.subdivision.specs.declared.Verdict.{Verdict};
 ghost use Rattle.subdivision.specs.Lists.{put};

@@ -1,4 +1,6 @@
 // The reader of a page of frames: the page is judged line by line, and what it holds is written to lent tables.
+#![tactic(auto)]
+
 ghost use Rattle.std.specs.Prelude.{◌≡◌, ◌↔◌, ℕ, length};
 ghost use Rattle.frames.specs.declared.Head.{Head};
 ghost use Rattle.frames.specs.declared.Page.{Page};
@@ -14,7 +16,7 @@ mod judging;
 mod tables;
 
 // What a step of the judgement says of a line.
-#[derive(Drop)]
+#[derive(Clone, Copy)]
 pub enum Step {
     // A good line; the next one begins there.
     Next(usize),

@@ -1,4 +1,6 @@
 // The program: reads a page of frames on standard input and prints a line for each of its points.
+#![tactic(auto)]
+
 use frames::{MAX_PAGE, MAX_TEXT, Written};
 use libc::{STDIN_FILENO, STDOUT_FILENO};
 use placing::place_page;

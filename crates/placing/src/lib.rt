@@ -1,4 +1,6 @@
 // What the program prints for a page: its sheet is opened once, and each point is found by the quick search.
+#![tactic(auto)]
+
 ghost use Rattle.std.specs.Prelude.{◌≡◌, false, ℕ, ◌*◌, ◌≤◌, length, take};
 ghost use Rattle.io.specs.Counts.{IsPrefixLen};
 ghost use Rattle.subdivision.specs.Limits.{program_limits};

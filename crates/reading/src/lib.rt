@@ -1,4 +1,6 @@
 // The plain reading of a point: the tables are judged, and then every vertex and every edge is looked at. It needs no index.
+#![tactic(auto)]
+
 ghost use Rattle.std.specs.Prelude.{◌≡◌, ◌↔◌, ℕ};
 ghost use Rattle.subdivision.specs.declared.Answer.{Answer};
 ghost use Rattle.subdivision.specs.Sheet.{shifted, sheet_of};

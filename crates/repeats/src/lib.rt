@@ -1,4 +1,6 @@
 // The vertices in order of their points, and refusal 5 along that order.
+#![tactic(auto)]
+
 ghost use Rattle.std.specs.Prelude.{◌≡◌, not, true, false, [], ℕ, ◌-◌, ◌<◌, ◌≤◌, min, eqb, pos, length, get_or};
 ghost use Rattle.subdivision.specs.Limits.{max_vertices};
 ghost use Rattle.subdivision.specs.Formula.{holds};

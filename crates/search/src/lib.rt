@@ -1,4 +1,6 @@
 // The quick search: the published descent through separating chains, over the words of a lent index.
+#![tactic(auto)]
+
 ghost use Rattle.std.specs.Prelude.{◌≡◌, ◌↔◌, ℕ, length};
 ghost use Rattle.subdivision.specs.declared.Answer.{Answer};
 ghost use Rattle.subdivision.specs.Sheet.{shifted, sheet_of};

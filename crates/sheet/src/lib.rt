@@ -1,4 +1,6 @@
 // The judgement of the tables: the limits, and the rules with the line of zones.
+#![tactic(auto)]
+
 ghost use Rattle.std.specs.Prelude.{◌≡◌, ◌↔◌, ℕ};
 ghost use Rattle.subdivision.specs.declared.Verdict.{Verdict};
 ghost use Rattle.subdivision.specs.Sheet.{sheet_of};

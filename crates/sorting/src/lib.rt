@@ -1,3 +1,5 @@
 // A sort of numbers by a key, then number, and the groups of a sorted order.
+#![tactic(auto)]
+
 pub mod groups;
 pub mod order;

@@ -1,4 +1,5 @@
 // The answers of document 01, as types, and its limits as the sizes of local storage. The definitions over them are in specs/.
+#![tactic(auto)]
 
 // At most so many vertices.
 pub const MAX_VERTICES: usize = 4096;
@@ -28,7 +29,7 @@ pub const HELD_EDGES: usize = 2048;
 pub const HELD_ZONES: usize = 1024;
 
 // Where a point lies, or why it was not placed: the kinds are kept apart.
-#[derive(Drop)]
+#[derive(Clone, Copy)]
 pub enum Answer {
     Vertex(u32),
     Edge(u32),
@@ -38,7 +39,7 @@ pub enum Answer {
 }
 
 // What a judgement of the tables, or opening, says of a sheet.
-#[derive(Drop)]
+#[derive(Clone, Copy)]
 pub enum Verdict {
     Passed,
     // The refusal's number and the item that it names, 0 where it names none.
@@ -46,7 +47,7 @@ pub enum Verdict {
 }
 
 // What the quick search gives back beside the trail.
-#[derive(Drop)]
+#[derive(Clone, Copy)]
 pub struct Found {
     pub answer: Answer,
     pub examined: u32,
@@ -54,7 +55,7 @@ pub struct Found {
 }
 
 // The side of an edge on which a point lies.
-#[derive(Drop)]
+#[derive(Clone, Copy)]
 pub enum Side {
     Below,
     On,
@@ -62,7 +63,7 @@ pub enum Side {
 }
 
 // What a probe sees at an entry of a chain, against an abscissa.
-#[derive(Drop)]
+#[derive(Clone, Copy)]
 pub enum Look {
     // The entry is no edge, or its record is at fault.
     Faulty,
@@ -75,7 +76,7 @@ pub enum Look {
 }
 
 // What the probes of a chain lead to.
-#[derive(Drop)]
+#[derive(Clone, Copy)]
 pub enum Probed {
     // The covering edge, and the probes made so far.
     Covered(u32, u32),
@@ -84,7 +85,7 @@ pub enum Probed {
 }
 
 // An edge with its ends: the numbers of its two vertices, and their coordinates, shifted.
-#[derive(Drop)]
+#[derive(Clone, Copy)]
 pub struct Segment {
     pub west: u32,
     pub east: u32,

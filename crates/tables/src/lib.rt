@@ -1,4 +1,6 @@
 // The lent tables read by number: words with a default past the end, shifted coordinates, edges with their ends.
+#![tactic(auto)]
+
 ghost use Rattle.std.specs.Prelude.{◌≡◌, pos, ◌<◌, ◌/◌, length, get_or};
 ghost use Rattle.subdivision.specs.Sheet.{shifted, vertex_x, vertex_y, edge_west, edge_east, edge_above, edge_below, segment_of};
 ghost use Rattle.tables.specs.Known.{EndsKnown};

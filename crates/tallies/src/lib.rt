@@ -1,4 +1,6 @@
 // What a sample's reading is, what it enters for its zone, and the month's judgement of a zone.
+#![tactic(auto)]
+
 ghost use Rattle.std.specs.Prelude.{◌≡◌, ◌+◌, ◌*◌, ◌<◌, length};
 ghost use Rattle.subdivision.specs.Formula.{holds};
 ghost use Rattle.ledger.specs.Readings.{in_range, reading_of, taken, reading_sound, permit_of, permit_sound};

@@ -1,4 +1,6 @@
 // Text written into a lent one: bytes, and numbers in hexadecimal and in decimal.
+#![tactic(auto)]
+
 ghost use Rattle.std.specs.Prelude.{◌≡◌, ◌+◌, ◌^◌, ◌<◌, ◌≤◌, length};
 ghost use Rattle.io.specs.Digits.{last_digits};
 ghost use Rattle.subdivision.specs.Lists.{over};

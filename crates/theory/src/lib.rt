@@ -1,1 +1,2 @@
 // Mathematics only: the laws are in proofs/, a file a subject.
+#![tactic(auto)]

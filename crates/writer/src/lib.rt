@@ -1,4 +1,6 @@
 // The writer of a page of frames: a sheet with its points as text.
+#![tactic(auto)]
+
 ghost use Rattle.std.specs.Prelude.{◌≡◌, ◌↔◌, ℕ, ◌≤◌, length, take};
 ghost use Rattle.subdivision.specs.Formula.{Means};
 ghost use Rattle.subdivision.specs.Lists.{put};
