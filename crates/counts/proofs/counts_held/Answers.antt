@@ -1,0 +1,6 @@
+-- The limits are handed on.
+use borrow.Author.Rules.{rules}
+use Rattle.counts.proofs.counts_held.Goals as goal
+
+pub returns : goal.returns
+returns c = c.at_most.ensures

@@ -1,0 +1,14 @@
+-- `numbers::dyadic::bit_length` meets its contract. The loop's invariant: the count and the bit length of the rest make that of k.
+-- The measure is the rest. Assumes nothing.
+use mathlib.Core.Path.{◌≡◌, ap}
+use Prim.Native.Nat.{◌+◌}
+use native.Mathlib.Omega.{arith}
+use Rattle.subdivision.specs.Dyadic.{bits}
+use Rattle.theory.proofs.Dyadic.{bits_zero, bits_half, bits_le}
+use Rattle.numbers.proofs.dyadic.bit_length.Given as goal
+
+abbrev pub invariant-loop-rest : goal.invariant-loop-rest
+invariant-loop-rest l = l.count + bits l.rest ≡ bits l.k
+
+abbrev pub decreases-loop-rest : goal.decreases-loop-rest
+decreases-loop-rest l = l.rest

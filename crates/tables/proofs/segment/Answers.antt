@@ -1,0 +1,6 @@
+-- `tables::segment` meets its contract.
+use borrow.Author.Rules.{rules}
+use Rattle.tables.proofs.segment.Goals as goal
+
+pub returns : goal.returns
+returns c = cc
