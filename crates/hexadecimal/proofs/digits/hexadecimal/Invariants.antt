@@ -1,0 +1,19 @@
+-- The loop's invariant: every byte before i is a digit. The measure is what is left.
+use mathlib.Core.Path.{◌≡◌, sym, ◌∙◌}
+use mathlib.Core.Logic.{⊎_elim}
+use Prim.Native.Nat.{ℕ, suc, ◌≤◌, ◌<◌, ◌-◌, ◌+◌}
+use native.Mathlib.Omega.{arith}
+use borrow.Author.Rules.{rules}
+use borrow.Author.Tests.{not-true, not-false}
+use lib.ListN.{get_or}
+use Rattle.subdivision.specs.Formula.{Means}
+use Rattle.frames.specs.Digits.{is_digit}
+use Rattle.frames.specs.Lines.{is_hexadecimal}
+use Rattle.theory.proofs.Decide.{held, fails, means, denies, below_suc}
+use Rattle.hexadecimal.proofs.digits.hexadecimal.Given as goal
+
+abbrev pub invariant-loop-i : goal.invariant-loop-i
+invariant-loop-i l = ((l.at ≤ l.i) × (l.i ≤ l.end)) × ((k : ℕ) → k < l.i - l.at → Means (is_digit (get_or l.page (l.at + k) 0)))
+
+abbrev pub decreases-loop-i : goal.decreases-loop-i
+decreases-loop-i l = l.end - l.i
