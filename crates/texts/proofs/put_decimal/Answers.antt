@@ -13,7 +13,7 @@ use borrow.Author.Rules.{rules}
 use Rattle.texts.proofs.put_decimal.Goals as goal
 
 -- the digits of as many as the number has are its decimal
-spelled : (n k : ℕ) (out : List ℕ) → IsDigitCount 10 0 n k → take k out ≡ last_digits 10 k n → take k out ≡ decimal n
+spelled : (n k : ℕ) (out : List ℕ) → IsDigitCount 10 1 n k → take k out ≡ last_digits 10 k n → take k out ≡ decimal n
 unfolding decimal
 spelled n k out fewest digits = digits ∙ ap (λ k. last_digits 10 k n) (decimal_width n k fewest)
 
