@@ -1,0 +1,25 @@
+-- The loop's invariant: none of the vertices passed breaks the clause. The measure is how many are left.
+use mathlib.Core.Path.{◌≡◌, ◌∙◌}
+use mathlib.Core.Bool.{not}
+use mathlib.Core.List.{[]}
+use Prim.Native.Nat.{ℕ, ◌-◌}
+use native.Mathlib.Omega.{arith}
+use mir.Facts.{to_z-of_z}
+use borrow.Author.Rules.{rules}
+use Rattle.subdivision.specs.Formula.{Formula, both, isAtMost, holds}
+use Rattle.subdivision.specs.Lowest.{lowest}
+use Rattle.subdivision.specs.Sheet.{sheet_of, vertex_x, vertex_y}
+use Rattle.subdivision.specs.Rules.{in_range, vertex_inside}
+use Rattle.theory.proofs.Lowest.{Searched, search_starts, search_goes_on, search_ends}
+use Rattle.records.proofs.vertices.first_outside.Given as goal
+
+-- the clause of a point, for shifted margins
+abbrev pub inside : ℕ → ℕ → ℕ → ℕ → Formula
+inside w e x y = both (both (in_range x) (in_range y)) (both (isAtMost w x) (isAtMost x e))
+
+abbrev pub invariant-loop-v : goal.invariant-loop-v
+invariant-loop-v l =
+    Searched (λ k. not (holds (inside l.w l.e (vertex_x l.vertices k) (vertex_y l.vertices k)))) l.count l.v
+
+abbrev pub decreases-loop-v : goal.decreases-loop-v
+decreases-loop-v l = l.count - l.v
