@@ -3,7 +3,7 @@ use mathlib.Core.Path.{◌≡◌, refl, sym, ap, ◌∙◌}
 use mathlib.Core.Bool.{Bool, true, false}
 use mathlib.Core.List.{List, [], ◌∷◌, ◌++◌}
 use mathlib.Core.Logic.{⊎_elim}
-use Prim.Native.Nat.{ℕ, suc, ◌+◌, ◌<◌, ◌≤◌}
+use Prim.Native.Nat.{ℕ, ◌+◌, ◌<◌, ◌≤◌}
 use native.Mathlib.Nat.{not-suc-le-zero, ne_of_lt}
 use native.Mathlib.Numerals.{add-one}
 use native.Mathlib.Omega.{arith}
@@ -11,14 +11,13 @@ use lib.Dec.{eqb}
 use lib.ListN.{length, get_or, set, take, replicate, length-set, length-replicate, get_or-replicate}
 use lib.Seq.{ext_get_or, get_or-take, take-suc-set, get_or-set_same, get_or-set_other}
 use borrow.Author.Tests.{eqb-true, eqb-false}
-use Rattle.subdivision.specs.Formula.{holds, Means}
-use Rattle.subdivision.specs.Lists.{tab}
+use Rattle.subdivision.specs.Formula.{holds}
 use Rattle.subdivision.specs.ZoneLine.{is_in}
 use Rattle.line.specs.Waiting.{zones_of}
 use Rattle.theory.proofs.Decide.{true_or_false, below_suc, held, denies}
-use Rattle.theory.proofs.Lists.{is_tab, length_tab, get_d_tab, zeros_part}
+use Rattle.theory.proofs.Lists.{is_tab, get_d_tab, zeros_part}
 use Rattle.theory.proofs.Position.{length_snoc, in_at_end, in_same}
-use Rattle.theory.proofs.Reached.{Fits, RunOver, Reached, with_zone, with_above, run_of, run_over, reached_next, with_held, with_new, fits_none, fits_room, fits_with}
+use Rattle.theory.proofs.Reached.{RunOver, Reached, with_zone, with_above, run_of, run_over, reached_next, with_held, with_new, fits_none, fits_room, fits_with}
 use Rattle.circles.specs.Looking.{mark_of, Looking}
 
 -- a zone in the list has mark 1
