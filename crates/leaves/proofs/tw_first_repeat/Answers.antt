@@ -3,7 +3,6 @@ use mathlib.Core.Path.{◌≡◌, sym, ◌∙◌}
 use mathlib.Core.Bool.{not}
 use mathlib.Core.List.{List, []}
 use Prim.Native.Nat.{◌/◌, ◌<◌, ◌≤◌}
-use borrow.Author.Rules.{rules}
 use borrow.Author.Tests.{le-leb, lt-leb}
 use lib.IntN.{ℤ, pos}
 use lib.ListN.{length}
@@ -13,8 +12,7 @@ use Rattle.subdivision.specs.Lowest.{lowest}
 use Rattle.subdivision.specs.Sheet.{sheet_of}
 use Rattle.subdivision.specs.Rules.{vertex_new}
 use Rattle.leaves.specs.Repeated.{repeat_among}
-use Rattle.leaves.proofs.tw_first_repeat.Statement.{statement}
-use Rattle.leaves.proofs.tw_first_repeat.Tie as tie
+use Rattle.leaves.proofs.tw_first_repeat.Goals as goal
 
 too_many : (vertices : List ℤ) → max_vertices < length vertices / 2 → repeat_among vertices ≡ 4294967295
 unfolding repeat_among
@@ -25,18 +23,8 @@ looked : (vertices : List ℤ) → length vertices / 2 ≤ max_vertices
 unfolding repeat_among
 looked vertices h = rw (le-leb (length vertices / 2) max_vertices h, repeat_among)
 
-returns : tie.Need-returns
-returns c = sym (too_many _ c.if1.true)
+pub returns-then-count-gt-MAX_VERTICES : goal.returns-then-count-gt-MAX_VERTICES
+returns-then-count-gt-MAX_VERTICES c = sym (too_many _ c.if-count-gt-MAX_VERTICES.true)
 
-cast-first-repeat : tie.Need-overflow-cast-first-repeat
-cast-first-repeat c = search rules
-
-first-repeat-requires : tie.Need-first-repeat-requires
-first-repeat-requires c κs = search rules
-
-returns-2 : tie.Need-returns-2
-returns-2 c = c.first-repeat.ensures ∙ sym (looked _ c.before.if1.false)
-
-pub tw_first_repeat_spec : {M : Type 1} → statement M
-tw_first_repeat_spec =
-    tie.close (tie.spec returns cast-first-repeat first-repeat-requires returns-2)
+pub returns : goal.returns
+returns c = c.first_repeat.ensures ∙ sym (looked _ c.if-count-gt-MAX_VERTICES.false)
