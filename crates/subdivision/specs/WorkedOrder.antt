@@ -1,10 +1,9 @@
--- The order of five vertices, two of them one point, computed; and two wrong orders that break what is promised of it: by y first, and with one vertex for each point.
+-- The order of five vertices, two of them one point, computed; and a wrong order that breaks what is promised of it: with one vertex for each point. The order by y first is in proofs/WorkedOrder.antt.
 use Rattle.std.specs.Prelude.{◌≡◌, refl, true, false, List, [], ◌∷◌, ℕ, ◌+◌, ◌*◌, eqb, ℤ, pos, negsuc, length}
-use Rattle.std.proofs.Common.{inl, inr, arith}
+use Rattle.std.proofs.Common.{arith}
 use Rattle.subdivision.specs.Lists.{tab}
 use Rattle.subdivision.specs.Order.{SortedBelow, at_or_before, in_order}
 use Rattle.subdivision.specs.Sheet.{vertex_x, vertex_y}
-use Rattle.subdivision.specs.PointOrder.{PointBefore, ByPoint}
 
 -- the points (1, 5), (-1, 7), (1, -5), (1, 5) and (-1, 0)
 unfoldable pub five_points : List ℤ
@@ -15,7 +14,7 @@ abbrev by_point : ℕ → ℕ
 by_point v = vertex_x five_points v * 4294967296 + vertex_y five_points v
 
 -- its y, and then its x
-abbrev by_height : ℕ → ℕ
+abbrev pub by_height : ℕ → ℕ
 by_height v = vertex_y five_points v * 4294967296 + vertex_x five_points v
 
 -- x put into an order, where a tie drops the later of the two
@@ -33,20 +32,6 @@ sorted_once key (x ∷ xs) = insert_once key x (sorted_once key xs)
 pub worked_order : in_order by_point 5 ≡ 4 ∷ 1 ∷ 2 ∷ 0 ∷ 3 ∷ []
 unfolding five_points in_order tab
 worked_order = refl
-
--- by y first it is another order
-height_first : in_order by_height 5 ≡ 2 ∷ 4 ∷ 0 ∷ 3 ∷ 1 ∷ []
-unfolding five_points in_order tab
-height_first = refl
-
--- which is not by point: vertex 2 comes before vertex 4, and vertex 4 is west of it
-pub height_first_breaks : ByPoint five_points (in_order by_height 5) → ⊥
-unfolding five_points
-height_first_breaks b = go (rw height_first at b 0 1 (omega arith) (omega arith))
-  where
-    go : PointBefore five_points 2 4 → ⊥
-    go (inl p) = omega arith
-    go (inr p) = omega arith
 
 -- where a tie drops a vertex, vertex 3 is missing
 tie_dropped : sorted_once by_point (tab (λ k. k) 5) ≡ 4 ∷ 1 ∷ 2 ∷ 0 ∷ []

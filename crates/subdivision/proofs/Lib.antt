@@ -1,0 +1,2 @@
+-- Theorems of worked cases that rest on other theorems.
+pub mod WorkedOrder
