@@ -57,4 +57,15 @@ returns c =
     let page = c.args.page.now in
     let good = c.requires.good_page.0 in
     let v = c.requires.good_page.1.0 in
-    let m = c.requires.good_page.1.1 in record { vertices_after = c.read_pairs.ensures ∙ (λ i. put (tab (λ k. signed_of (number_at page (43 + 19 * (k / 2)) (k % 2))) (2 * v i)) c.args.vertices.now) ∙ ap (λ w. put w c.args.vertices.now) (vertices_at page c.args.count good); edges_after = c.read_edges.ensures ∙ (λ i. put (tab (λ k. number_at page (43 + 19 * v i + 35 * (k / 4)) (k % 4)) (4 * m i)) c.args.edges.now) ∙ ap (λ w. put w c.args.edges.now) (edges_at page c.args.count good); points_after = c.read_pairs-2.ensures ∙ (λ i. put (tab (λ k. signed_of (number_at page (43 + 19 * v i + 35 * m i + 19 * (k / 2)) (k % 2))) (2 * c.args.count)) c.args.points.now) ∙ ap (λ w. put w c.args.points.now) (points-at page c.args.count good) }
+    let m = c.requires.good_page.1.1 in
+    record {
+      vertices_after = c.read_pairs.ensures
+          ∙ (λ i. put (tab (λ k. signed_of (number_at page (43 + 19 * (k / 2)) (k % 2))) (2 * v i)) c.args.vertices.now)
+          ∙ ap (λ w. put w c.args.vertices.now) (vertices_at page c.args.count good);
+      edges_after = c.read_edges.ensures
+          ∙ (λ i. put (tab (λ k. number_at page (43 + 19 * v i + 35 * (k / 4)) (k % 4)) (4 * m i)) c.args.edges.now)
+          ∙ ap (λ w. put w c.args.edges.now) (edges_at page c.args.count good);
+      points_after = c.read_pairs-2.ensures
+          ∙ (λ i. put (tab (λ k. signed_of (number_at page (43 + 19 * v i + 35 * m i + 19 * (k / 2)) (k % 2))) (2 * c.args.count)) c.args.points.now)
+          ∙ ap (λ w. put w c.args.points.now) (points-at page c.args.count good);
+    }

@@ -16,7 +16,7 @@ pub put_digits-requires : goal.put_digits-requires
 put_digits-requires c =
     let l = c.loop-i in
     let a = c.args in
-    let fits = c.shared_slice_known-in-loop-i-1.given l.i in
+    let fits = c.type_inv.numbers l.i in
     let long = ap length l.invariant.1 ∙ numbers_within a.numbers.now a.text.now a.at l.i (omega arith) (omega arith) in
     record { width_nonzero = ((omega arith, omega arith), omega (arith, fits)); width_in_bounds = omega (arith, long) }
 

@@ -44,14 +44,16 @@ pub loop-i-preserved : goal.loop-i-preserved
 loop-i-preserved c =
     let l = c.loop-i in
     let a = c.args in
-    let x = c.word_of.ensures ∙ ap word_of (to_z-of_z {w = w32} {z = get_or a.table.now (2 * l.i) (pos 0)} (sfits_of c.x-1.given)) in
-    let y = c.word_of-in-loop-i.ensures ∙ ap word_of (to_z-of_z {w = w32} {z = get_or a.table.now (2 * l.i + 1) (pos 0)} (sfits_of c.y-1.given)) in (
+    let x_fits : mag (get_or a.table.now (2 * l.i) (pos 0)) < origin = omega arith in
+    let y_fits : mag (get_or a.table.now (2 * l.i + 1) (pos 0)) < origin = omega arith in
+    let x = c.word_of.ensures ∙ ap word_of (to_z-of_z {w = w32} {z = get_or a.table.now (2 * l.i) (pos 0)} (sfits_of x_fits)) in
+    let y = c.word_of-in-loop-i.ensures ∙ ap word_of (to_z-of_z {w = w32} {z = get_or a.table.now (2 * l.i + 1) (pos 0)} (sfits_of y_fits)) in (
       omega arith,
       (
         c.put_frame.ensures.text_after
             ∙ (λ i. over (frame_text a.kind (x i ∷ y i ∷ [])) (l.invariant.1.0 i) (a.at + 19 * l.i))
             ∙ frames_next a.kind 2 (pair_numbers a.table.now) (λ i. refl) a.text.now a.at (a.at + 19 * l.i) l.i (omega arith) refl,
-        two_more a.table.now l.i l.invariant.1.1 c.x-1.given c.y-1.given,
+        two_more a.table.now l.i l.invariant.1.1 x_fits y_fits,
       ),
     )
 
@@ -65,4 +67,9 @@ pub returns : goal.returns
 returns c =
     let l = c.loop-i in
     let a = c.args in
-    let all : l.i ≡ length a.table.now / 2 = omega arith in record { value = omega arith; text_after = l.invariant.1.0 ∙ ap (λ n. over (frames_text a.kind (pair_numbers a.table.now) n) a.text.now a.at) all; by_index = λ k h. l.invariant.1.1 k (omega (arith, all)) }
+    let all : l.i ≡ length a.table.now / 2 = omega arith in
+    record {
+      value = omega arith;
+      text_after = l.invariant.1.0 ∙ ap (λ n. over (frames_text a.kind (pair_numbers a.table.now) n) a.text.now a.at) all;
+      by_index = λ k h. l.invariant.1.1 k (omega (arith, all));
+    }
