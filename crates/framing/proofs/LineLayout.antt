@@ -1,7 +1,7 @@
 -- Good lines: what each is, and where it begins and ends.
 use mathlib.Core.Path.{◌≡◌, ap, ◌∙◌}
 use mathlib.Core.List.{List}
-use Prim.Native.Nat.{ℕ, zero, suc, ◌+◌, ◌-◌, ◌*◌, ◌<◌, ◌≤◌}
+use Prim.Native.Nat.{ℕ, zero, suc, ◌+◌, ◌*◌, ◌<◌, ◌≤◌}
 use native.Mathlib.Nat.{le_refl, add-zero, add-suc}
 use native.Mathlib.Omega.{arith}
 use lib.ListN.{get_or}

@@ -7,10 +7,10 @@ use Prim.Native.Nat.{ℕ, ◌<◌}
 use native.Mathlib.Omega.{arith}
 use lib.ListN.{take}
 use Rattle.subdivision.specs.Formula.{Means}
-use Rattle.subdivision.specs.Sheet.{Sheet, edge_count, zone_count, above_of, below_of}
+use Rattle.subdivision.specs.Sheet.{Sheet, edge_count, zone_count, above_of}
 use Rattle.subdivision.specs.ZoneLine.{OnCircle, on_circle}
 use Rattle.subdivision.specs.Refusals.{Refusal, unnamed, limit_refusals, room_refusal, circle_refusal, rule_refusals}
-use Rattle.subdivision.specs.Faults.{LowestFault, Named, GivenBy, AllKept, LowestOnCircle, opening_refusals, table_refusals, reading_refusals}
+use Rattle.subdivision.specs.Faults.{Named, GivenBy, AllKept, LowestOnCircle, opening_refusals, table_refusals, reading_refusals}
 use Rattle.subdivision.specs.Reading.{on_sheet}
 use Rattle.theory.proofs.Decide.{decided}
 use Rattle.theory.proofs.Reached.{any_steps}

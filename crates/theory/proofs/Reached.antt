@@ -1,16 +1,16 @@
 -- The zones that steps from below to above lead to from a zone, looked for in a list that grows at its end: once the steps of every zone
 -- in the list are taken, the zone is on a circle exactly when it stands in the list itself.
 use mathlib.Core.Path.{◌≡◌, refl, sym, ap, ◌∙◌}
-use mathlib.Core.Bool.{Bool, true, false, not}
+use mathlib.Core.Bool.{true, false}
 use mathlib.Core.List.{List, [], ◌∷◌, ◌++◌}
 use mathlib.Core.Logic.{◌⊎◌, inl, inr, ⊎_elim}
-use Prim.Native.Nat.{ℕ, zero, suc, ◌+◌, ◌*◌, ◌-◌, ◌<◌, ◌≤◌}
-use native.Mathlib.Nat.{le_refl, not-suc-le-zero, lt-suc_self}
+use Prim.Native.Nat.{ℕ, zero, suc, ◌+◌, ◌<◌, ◌≤◌}
+use native.Mathlib.Nat.{le_refl, not-suc-le-zero}
 use native.Mathlib.Decide.{dec_le}
 use native.Mathlib.Omega.{arith}
 use lib.ListN.{length, get_or, get_or-append}
 use lib.Seq.{get_or-append_seam}
-use Rattle.subdivision.specs.Formula.{not_so, holds, Means}
+use Rattle.subdivision.specs.Formula.{holds, Means}
 use Rattle.subdivision.specs.Order.{in_order}
 use Rattle.subdivision.specs.Sheet.{Sheet, edge_above, edge_count, zone_count, above_of, below_of}
 use Rattle.subdivision.specs.ZoneLine.{position, is_in, leads, on_circle}

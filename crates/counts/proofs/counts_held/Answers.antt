@@ -1,5 +1,4 @@
 -- The limits are handed on.
-use borrow.Author.Rules.{rules}
 use Rattle.counts.proofs.counts_held.Goals as goal
 
 pub returns : goal.returns

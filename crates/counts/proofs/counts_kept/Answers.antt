@@ -1,6 +1,5 @@
 -- A table that is not whole breaks the limit at its own test; whole tables leave it to the counts.
 use mathlib.Core.Path.{sym, ◌∙◌}
-use borrow.Author.Rules.{rules}
 use lib.IntN.{pos}
 use lib.ListN.{length}
 use Prim.Native.Nat.{◌/◌}
@@ -8,7 +7,6 @@ use Rattle.subdivision.specs.Formula.{Formula}
 use Rattle.subdivision.specs.Sheet.{sheet_of}
 use Rattle.subdivision.specs.Refusals.{counts_within, counts_kept}
 use Rattle.theory.proofs.Decide.{means, denies, fails, computes}
-use borrow.Author.Rules.{rules}
 use Rattle.counts.proofs.counts_kept.Goals as goal
 use Rattle.counts.proofs.counts_kept.Goals.{Start}
 

@@ -1,6 +1,5 @@
 -- Each call gives its part of the key.
 use Rattle.indexing.specs.Keys.{placed_key}
-use borrow.Author.Rules.{rules}
 use Rattle.indexing.proofs.chain_key.Goals as goal
 
 pub returns : goal.returns

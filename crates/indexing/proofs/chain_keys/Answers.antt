@@ -1,13 +1,12 @@
 use mathlib.Core.Path.{◌≡◌, refl, sym, ◌∙◌}
-use Prim.Native.Nat.{◌≤◌, ◌<◌, ◌-◌}
+use Prim.Native.Nat.{◌≤◌, ◌<◌}
 use native.Mathlib.Numerals.{add-one}
 use native.Mathlib.Omega.{arith}
-use lib.ListN.{length, take, length-set}
+use lib.ListN.{length, length-set}
 use lib.Seq.{take-suc-set, take_all}
 use Rattle.subdivision.specs.Lists.{tab}
 use Rattle.theory.proofs.Lists.{tab_more}
 use Rattle.indexing.specs.Keys.{placed_key}
-use borrow.Author.Rules.{rules}
 use Rattle.indexing.proofs.chain_keys.Goals as goal
 
 pub loop-e-init : goal.loop-e-init

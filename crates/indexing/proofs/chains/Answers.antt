@@ -3,7 +3,6 @@ use mathlib.Core.Path.{sym}
 use lib.ListN.{length}
 use Rattle.subdivision.specs.Limits.{max_edges}
 use Rattle.theory.proofs.Lists.{zeros_part}
-use borrow.Author.Rules.{rules}
 use Rattle.indexing.proofs.chains.Goals as goal
 
 pub slice_bounds-sort_by_chain-end : goal.slice_bounds-sort_by_chain-end

@@ -9,7 +9,6 @@ use Rattle.subdivision.specs.ZoneLine.{position}
 use Rattle.theory.proofs.Groups.{group_start}
 use Rattle.indexing.specs.Keys.{placed_key}
 use Rattle.indexing.proofs.Packed.{places_whole, parts_packed}
-use borrow.Author.Rules.{rules}
 use Rattle.indexing.proofs.fill.Goals as goal
 
 pub returns : goal.returns

@@ -1,6 +1,5 @@
 -- Each part is written where the one before it ends.
 use Rattle.indexing.proofs.Written.{parts_put}
-use borrow.Author.Rules.{rules}
 use Rattle.indexing.proofs.parts.Goals as goal
 
 pub returns : goal.returns

@@ -1,10 +1,8 @@
 use mathlib.Core.Path.{◌≡◌, ap, ◌∙◌}
-use Prim.Native.Nat.{◌≤◌}
 use native.Mathlib.Omega.{arith}
 use lib.ListN.{length, drop}
 use lib.Seq.{drop-length}
-use Rattle.indexing.proofs.Placing.{placing, placing_down, length_placing, placing_whole}
-use borrow.Author.Rules.{rules}
+use Rattle.indexing.proofs.Placing.{placing_down, length_placing, placing_whole}
 use Rattle.indexing.proofs.places.Goals as goal
 
 pub loop-p-init : goal.loop-p-init

@@ -1,11 +1,8 @@
 -- The loop's invariant: the places from p on are written. The measure is p.
-use mathlib.Core.Path.{◌≡◌, ap, ◌∙◌}
+use mathlib.Core.Path.{◌≡◌}
 use Prim.Native.Nat.{◌≤◌}
-use native.Mathlib.Omega.{arith}
 use lib.ListN.{length, drop}
-use lib.Seq.{drop-length}
-use Rattle.indexing.proofs.Placing.{placing, placing_down, length_placing, placing_whole}
-use borrow.Author.Rules.{rules}
+use Rattle.indexing.proofs.Placing.{placing}
 use Rattle.indexing.proofs.places.Given as goal
 
 abbrev pub invariant-loop-p : goal.invariant-loop-p

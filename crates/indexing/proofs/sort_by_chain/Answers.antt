@@ -7,7 +7,6 @@ use lib.ListN.{length}
 use Rattle.subdivision.specs.Lists.{tab}
 use Rattle.theory.proofs.Keys.{sorted_by_keys, grouped_by_keys}
 use Rattle.indexing.specs.Keys.{placed_key}
-use borrow.Author.Rules.{rules}
 use Rattle.indexing.proofs.sort_by_chain.Goals as goal
 
 pub returns : goal.returns

@@ -1,7 +1,6 @@
 -- Past the end `set` changes nothing.
 use mathlib.Core.Path.{sym}
 use lib.Seq.{set_out}
-use borrow.Author.Rules.{rules}
 use Rattle.indexing.proofs.store.Goals as goal
 
 pub returns-else-i-table : goal.returns-else-i-table

@@ -6,7 +6,6 @@ use native.Mathlib.Omega.{arith}
 use lib.ListN.{length}
 use Rattle.subdivision.specs.Limits.{max_edges, max_zones}
 use Rattle.theory.proofs.Lists.{zeros_part}
-use borrow.Author.Rules.{rules}
 use Rattle.indexing.proofs.write_index.Goals as goal
 
 pub slice_bounds-fill-end : goal.slice_bounds-fill-end

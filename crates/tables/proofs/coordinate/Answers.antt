@@ -2,7 +2,6 @@
 use mathlib.Core.Path.{◌∙◌, sym, ap}
 use lib.IntN.{pos}
 use lib.ListN.{get_or-eq_default}
-use borrow.Author.Rules.{rules}
 use Rattle.subdivision.specs.Sheet.{shifted}
 use Rattle.tables.proofs.coordinate.Goals as goal
 

@@ -1,7 +1,7 @@
 -- `tables::known_coordinate` meets its contract.
 use mir.Syntax.{w32}
 use mir.Facts.{to_z-of_z}
-use borrow.Author.Rules.{rules, sfits_of}
+use borrow.Author.Rules.{sfits_of}
 use Rattle.tables.proofs.known_coordinate.Goals as goal
 
 pub returns : goal.returns

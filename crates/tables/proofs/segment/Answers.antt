@@ -1,5 +1,4 @@
 -- `tables::segment` meets its contract.
-use borrow.Author.Rules.{rules}
 use Rattle.tables.proofs.segment.Goals as goal
 
 pub returns : goal.returns

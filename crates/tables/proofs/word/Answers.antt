@@ -1,7 +1,6 @@
 -- `tables::word` meets its contract.
 use mathlib.Core.Path.{sym}
 use lib.ListN.{get_or-eq_default}
-use borrow.Author.Rules.{rules}
 use Rattle.tables.proofs.word.Goals as goal
 
 pub returns : goal.returns

@@ -1,7 +1,6 @@
 -- What a reading carries is entered.
 use mathlib.Core.Path.{◌∙◌, sym, ap}
 use Rattle.ledger.specs.Tallies.{enter}
-use borrow.Author.Rules.{rules}
 use Rattle.tallies.proofs.enter.Goals as goal
 
 pub returns-in-Measured : goal.returns-in-Measured

@@ -1,7 +1,6 @@
 -- The count is tested, then the mean against the limit.
 use borrow.Author.Tests.{eq-eqb, ne_eqb}
 use Rattle.ledger.specs.Tallies.{judge}
-use borrow.Author.Rules.{rules}
 use Rattle.tallies.proofs.judge.Goals as goal
 
 pub returns-then-tally-eq0 : goal.returns-then-tally-eq0

@@ -4,7 +4,6 @@ use mathlib.Core.Bool.{Bool, true, false}
 use Rattle.ledger.specs.Readings.{in_range, permit_sound}
 use Rattle.subdivision.specs.Formula.{holds}
 use Rattle.accounting.proofs.Tests.{both_tests}
-use borrow.Author.Rules.{rules}
 use Rattle.tallies.proofs.permit_sound.Goals.{Start}
 use Rattle.tallies.proofs.permit_sound.Goals as goal
 

@@ -1,7 +1,6 @@
 -- What a reading carries is tested.
 use mathlib.Core.Path.{◌∙◌, sym, ap}
 use Rattle.ledger.specs.Readings.{reading_sound}
-use borrow.Author.Rules.{rules}
 use Rattle.tallies.proofs.reading_sound.Goals as goal
 
 pub returns-in-Measured : goal.returns-in-Measured

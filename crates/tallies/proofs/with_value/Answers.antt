@@ -1,6 +1,5 @@
 -- The first value is the sum, and a later one is added to it.
 use borrow.Author.Tests.{eq-eqb, ne_eqb}
-use borrow.Author.Rules.{rules}
 use Rattle.tallies.proofs.with_value.Goals as goal
 
 pub returns-then-tally-eq0 : goal.returns-then-tally-eq0

@@ -2,14 +2,12 @@
 use mathlib.Core.Path.{◌≡◌, ap, ◌∙◌}
 use Prim.Native.Nat.{ℕ, ◌+◌}
 use native.Mathlib.Omega.{arith}
-use borrow.Author.Rules.{rules}
 use mathlib.Core.List.{List}
 use lib.ListN.{length, take}
 use Rattle.io.specs.Digits.{last_digits, IsDigitCount}
 use Rattle.subdivision.specs.Lists.{over}
 use Rattle.frames.specs.Placing.{decimal}
 use Rattle.framing.proofs.Widths.{decimal_width}
-use borrow.Author.Rules.{rules}
 use Rattle.texts.proofs.put_decimal.Goals as goal
 
 -- the digits of as many as the number has are its decimal

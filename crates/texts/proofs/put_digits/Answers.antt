@@ -3,14 +3,12 @@ use mathlib.Core.Path.{◌≡◌, ap, ◌∙◌}
 use Prim.Native.Nat.{ℕ, ◌+◌, ◌^◌, ◌<◌, ◌≤◌, min, max}
 use native.Mathlib.Nat.{zero-lt-suc}
 use native.Mathlib.Omega.{arith}
-use borrow.Author.Rules.{rules}
 use mathlib.Core.List.{List}
 use lib.ListN.{length, take}
 use Rattle.io.specs.Digits.{last_digits, IsDigitCount}
 use Rattle.subdivision.specs.Lists.{over}
 use Rattle.framing.proofs.TextDigits.{length_digits}
 use Rattle.framing.proofs.Widths.{width_fixed}
-use borrow.Author.Rules.{rules}
 use Rattle.texts.proofs.put_digits.Goals as goal
 
 -- as many digits as asked, where that many hold the number

@@ -2,7 +2,6 @@
 use mathlib.Core.Path.{◌≡◌, sym, ◌∙◌}
 use mathlib.Core.Bool.{true}
 use lib.Dec.{ltb}
-use borrow.Author.Rules.{rules}
 use borrow.Author.Tests.{ltb-true, not-true, not-false}
 use Rattle.subdivision.specs.Formula.{holds}
 use Rattle.subdivision.specs.Lines.{overlap_west, overlap_east}

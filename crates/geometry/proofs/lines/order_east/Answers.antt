@@ -2,7 +2,6 @@
 use mathlib.Core.Path.{◌∙◌, ap}
 use native.Mathlib.Nat.{min-eq_left, min-eq_right, le_of_lt}
 use native.Mathlib.Omega.{arith}
-use borrow.Author.Rules.{rules}
 use Rattle.theory.proofs.Heights.{east_end, side_of_end}
 use Rattle.geometry.specs.Crossing.{turned}
 use Rattle.geometry.proofs.Crossing.{turned_side_of_end}

@@ -2,7 +2,6 @@
 use mathlib.Core.Path.{◌≡◌}
 use Prim.Native.Nat.{◌+◌, ◌*◌}
 use native.Mathlib.Omega.{arith}
-use borrow.Author.Rules.{rules}
 use Rattle.subdivision.specs.Lines.{point_part, edge_part}
 use Rattle.theory.proofs.Heights.{product_fits, products_fit}
 use Rattle.geometry.proofs.Bounds.{parts_bounded}

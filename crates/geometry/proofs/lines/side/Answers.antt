@@ -1,7 +1,6 @@
 -- `geometry::lines::side` meets its contract.
 use mathlib.Core.Path.{◌∙◌, sym, ap₂}
 use native.Mathlib.Nat.{le_antisymm}
-use borrow.Author.Rules.{rules}
 use Rattle.subdivision.specs.Lines.{side_of}
 use Rattle.theory.proofs.Sides.{side_below, side_on, side_above}
 use Rattle.geometry.proofs.lines.side.Goals as goal

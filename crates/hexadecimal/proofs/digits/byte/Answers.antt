@@ -1,7 +1,6 @@
 -- `digits::byte` meets its contract.
 use mathlib.Core.Path.{sym}
 use lib.ListN.{get_or-eq_default}
-use borrow.Author.Rules.{rules}
 use Rattle.hexadecimal.proofs.digits.byte.Goals as goal
 
 pub returns : goal.returns

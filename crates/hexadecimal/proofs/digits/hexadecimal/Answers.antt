@@ -1,11 +1,9 @@
 use mathlib.Core.Path.{◌≡◌, sym, ◌∙◌}
 use mathlib.Core.Logic.{⊎_elim}
-use Prim.Native.Nat.{ℕ, suc, ◌≤◌, ◌<◌, ◌-◌, ◌+◌}
+use Prim.Native.Nat.{suc, ◌-◌, ◌+◌}
 use native.Mathlib.Omega.{arith}
-use borrow.Author.Rules.{rules}
 use borrow.Author.Tests.{not-true, not-false}
 use lib.ListN.{get_or}
-use Rattle.subdivision.specs.Formula.{Means}
 use Rattle.frames.specs.Digits.{is_digit}
 use Rattle.frames.specs.Lines.{is_hexadecimal}
 use Rattle.theory.proofs.Decide.{held, fails, means, denies, below_suc}

@@ -1,15 +1,8 @@
 -- The loop's invariant: every byte before i is a digit. The measure is what is left.
-use mathlib.Core.Path.{◌≡◌, sym, ◌∙◌}
-use mathlib.Core.Logic.{⊎_elim}
-use Prim.Native.Nat.{ℕ, suc, ◌≤◌, ◌<◌, ◌-◌, ◌+◌}
-use native.Mathlib.Omega.{arith}
-use borrow.Author.Rules.{rules}
-use borrow.Author.Tests.{not-true, not-false}
+use Prim.Native.Nat.{ℕ, ◌≤◌, ◌<◌, ◌-◌, ◌+◌}
 use lib.ListN.{get_or}
 use Rattle.subdivision.specs.Formula.{Means}
 use Rattle.frames.specs.Digits.{is_digit}
-use Rattle.frames.specs.Lines.{is_hexadecimal}
-use Rattle.theory.proofs.Decide.{held, fails, means, denies, below_suc}
 use Rattle.hexadecimal.proofs.digits.hexadecimal.Given as goal
 
 abbrev pub invariant-loop-i : goal.invariant-loop-i

@@ -5,7 +5,6 @@ use native.Mathlib.Omega.{arith}
 use mir.Syntax.{w32}
 use mir.Val.{to_z}
 use Rattle.framing.proofs.Signs.{signed_low, signed_high}
-use borrow.Author.Rules.{rules}
 use Rattle.hexadecimal.proofs.signs.signed_of.Goals as goal
 
 pub returns-then-w-lt2147483648 : goal.returns-then-w-lt2147483648

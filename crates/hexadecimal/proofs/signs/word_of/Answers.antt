@@ -1,12 +1,10 @@
 -- The word is the shifted number with its highest bit turned.
 use mathlib.Core.Path.{◌≡◌, ap, ◌∙◌}
 use native.Mathlib.Omega.{arith}
-use borrow.Author.Rules.{rules}
 use mir.Syntax.{w32}
 use mir.Facts.{to_z-of_z}
 use Rattle.subdivision.specs.Sheet.{shifted}
 use Rattle.framing.proofs.Signs.{word_low, word_high}
-use borrow.Author.Rules.{rules}
 use Rattle.hexadecimal.proofs.signs.word_of.Goals.{After-shifted-s}
 use Rattle.hexadecimal.proofs.signs.word_of.Goals as goal
 

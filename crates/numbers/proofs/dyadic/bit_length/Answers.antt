@@ -1,5 +1,4 @@
 use mathlib.Core.Path.{◌≡◌, ap}
-use Prim.Native.Nat.{◌+◌}
 use native.Mathlib.Omega.{arith}
 use Rattle.subdivision.specs.Dyadic.{bits}
 use Rattle.theory.proofs.Dyadic.{bits_zero, bits_half, bits_le}

@@ -1,10 +1,8 @@
 -- `numbers::dyadic::bit_length` meets its contract. The loop's invariant: the count and the bit length of the rest make that of k.
 -- The measure is the rest. Assumes nothing.
-use mathlib.Core.Path.{◌≡◌, ap}
+use mathlib.Core.Path.{◌≡◌}
 use Prim.Native.Nat.{◌+◌}
-use native.Mathlib.Omega.{arith}
 use Rattle.subdivision.specs.Dyadic.{bits}
-use Rattle.theory.proofs.Dyadic.{bits_zero, bits_half, bits_le}
 use Rattle.numbers.proofs.dyadic.bit_length.Given as goal
 
 abbrev pub invariant-loop-rest : goal.invariant-loop-rest

@@ -2,7 +2,6 @@
 use mathlib.Core.Path.{sym, ap, ◌∙◌}
 use Prim.Native.Nat.{ℕ, ◌-◌, ◌^◌}
 use native.Mathlib.Omega.{arith}
-use borrow.Author.Rules.{rules}
 use Rattle.theory.proofs.Dyadic.{bits_half, bits_le, top_bit_small, top_bit_le, top_bit_is_pow}
 use Rattle.numbers.proofs.dyadic.top_bit.Goals as goal
 

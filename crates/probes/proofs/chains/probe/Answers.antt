@@ -1,13 +1,12 @@
 use mathlib.Core.Path.{◌≡◌, refl, sym, ap, ◌∙◌}
-use Prim.Native.Nat.{ℕ, ◌+◌, ◌-◌, ◌≤◌, ◌/◌}
+use Prim.Native.Nat.{ℕ, ◌+◌, ◌/◌}
 use native.Mathlib.Omega.{arith}
-use borrow.Author.Rules.{rules}
 use Rattle.subdivision.specs.declared.Probed.{Probed}
 use Rattle.subdivision.specs.Sheet.{Sheet}
 use Rattle.subdivision.specs.Descent.{LookUps, look, probe, index_look_ups}
 use Rattle.probes.specs.Margins.{sheet_at}
 use Rattle.probes.specs.Judged.{judged_look}
-use Rattle.probes.proofs.Looks.{Probing, probing_faulty, probing_west, probing_covering, probing_beyond, probing_ends}
+use Rattle.probes.proofs.Looks.{probing_faulty, probing_west, probing_covering, probing_beyond, probing_ends}
 use Rattle.probes.proofs.chains.probe.Lts as lts
 use Rattle.probes.proofs.chains.probe.Tie as tie
 use Rattle.probes.proofs.chains.probe.Reads as reads

@@ -1,14 +1,8 @@
 -- The loop's invariant: the probes that are left find what all of them find, and no more are made than entries are left. The measure is how many are left.
-use mathlib.Core.Path.{◌≡◌, refl, sym, ap, ◌∙◌}
-use Prim.Native.Nat.{ℕ, ◌+◌, ◌-◌, ◌≤◌, ◌/◌}
-use native.Mathlib.Omega.{arith}
-use borrow.Author.Rules.{rules}
-use Rattle.subdivision.specs.declared.Probed.{Probed}
-use Rattle.subdivision.specs.Sheet.{Sheet}
-use Rattle.subdivision.specs.Descent.{LookUps, look, probe, index_look_ups}
+use Prim.Native.Nat.{◌+◌, ◌-◌, ◌≤◌}
+use Rattle.subdivision.specs.Descent.{probe, index_look_ups}
 use Rattle.probes.specs.Margins.{sheet_at}
-use Rattle.probes.specs.Judged.{judged_look}
-use Rattle.probes.proofs.Looks.{Probing, probing_faulty, probing_west, probing_covering, probing_beyond, probing_ends}
+use Rattle.probes.proofs.Looks.{Probing}
 use Rattle.probes.proofs.chains.probe.Given as goal
 
 abbrev pub invariant-loop-lo : goal.invariant-loop-lo

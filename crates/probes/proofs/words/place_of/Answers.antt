@@ -1,7 +1,6 @@
 -- The word is read where the layout has it.
 use mathlib.Core.Path.{ap, ◌∙◌}
 use Prim.Native.Nat.{ℕ}
-use borrow.Author.Rules.{rules}
 use lib.ListN.{get_or}
 use Rattle.probes.proofs.words.place_of.Goals as goal
 

@@ -1,7 +1,6 @@
 -- An edge that names something past the end breaks the rule at that test; one that passes all four keeps it.
 use mathlib.Core.Path.{sym}
 use native.Mathlib.Omega.{arith}
-use borrow.Author.Rules.{rules}
 use lib.IntN.{pos}
 use Rattle.subdivision.specs.Formula.{Formula}
 use Rattle.subdivision.specs.Sheet.{sheet_of}

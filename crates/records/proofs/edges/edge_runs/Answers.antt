@@ -1,5 +1,4 @@
 -- `tables` reads both abscissas, and the rule is their order.
-use borrow.Author.Rules.{rules}
 use Rattle.records.proofs.edges.edge_runs.Goals as goal
 
 pub returns : goal.returns

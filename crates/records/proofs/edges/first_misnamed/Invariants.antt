@@ -1,14 +1,11 @@
 -- The loop's invariant: none of the edges passed breaks the clause. The measure is how many are left.
-use mathlib.Core.Path.{sym, ap, ◌∙◌}
 use mathlib.Core.Bool.{not}
 use Prim.Native.Nat.{◌-◌}
-use native.Mathlib.Omega.{arith}
-use borrow.Author.Rules.{rules}
 use lib.IntN.{pos}
 use Rattle.subdivision.specs.Formula.{holds}
 use Rattle.subdivision.specs.Sheet.{sheet_of}
 use Rattle.subdivision.specs.Rules.{edge_names}
-use Rattle.theory.proofs.Lowest.{Searched, search_starts, search_goes_on, search_ends}
+use Rattle.theory.proofs.Lowest.{Searched}
 use Rattle.records.proofs.edges.first_misnamed.Given as goal
 
 abbrev pub invariant-loop-e : goal.invariant-loop-e

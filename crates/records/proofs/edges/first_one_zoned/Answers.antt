@@ -1,14 +1,7 @@
 use mathlib.Core.Path.{sym, ap, ◌∙◌}
 use mathlib.Core.Bool.{not}
-use mathlib.Core.List.{[]}
-use Prim.Native.Nat.{◌-◌}
 use native.Mathlib.Omega.{arith}
-use borrow.Author.Rules.{rules}
-use lib.IntN.{pos}
-use Rattle.subdivision.specs.Formula.{holds}
-use Rattle.subdivision.specs.Sheet.{sheet_of}
-use Rattle.subdivision.specs.Rules.{zones_differ}
-use Rattle.theory.proofs.Lowest.{Searched, search_starts, search_goes_on, search_ends}
+use Rattle.theory.proofs.Lowest.{search_starts, search_goes_on, search_ends}
 use Rattle.records.proofs.edges.first_one_zoned.Goals as goal
 
 pub loop-e-init : goal.loop-e-init

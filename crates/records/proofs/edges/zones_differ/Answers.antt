@@ -1,5 +1,4 @@
 -- `tables` reads both zones, and the rule is that they differ.
-use borrow.Author.Rules.{rules}
 use Rattle.records.proofs.edges.zones_differ.Goals as goal
 
 pub returns : goal.returns

@@ -1,16 +1,10 @@
 -- The loop's invariant: none of the vertices passed breaks the clause. The measure is how many are left.
-use mathlib.Core.Path.{◌≡◌, ◌∙◌}
 use mathlib.Core.Bool.{not}
-use mathlib.Core.List.{[]}
 use Prim.Native.Nat.{ℕ, ◌-◌}
-use native.Mathlib.Omega.{arith}
-use mir.Facts.{to_z-of_z}
-use borrow.Author.Rules.{rules}
 use Rattle.subdivision.specs.Formula.{Formula, both, isAtMost, holds}
-use Rattle.subdivision.specs.Lowest.{lowest}
-use Rattle.subdivision.specs.Sheet.{sheet_of, vertex_x, vertex_y}
-use Rattle.subdivision.specs.Rules.{in_range, vertex_inside}
-use Rattle.theory.proofs.Lowest.{Searched, search_starts, search_goes_on, search_ends}
+use Rattle.subdivision.specs.Sheet.{vertex_x, vertex_y}
+use Rattle.subdivision.specs.Rules.{in_range}
+use Rattle.theory.proofs.Lowest.{Searched}
 use Rattle.records.proofs.vertices.first_outside.Given as goal
 
 -- the clause of a point, for shifted margins

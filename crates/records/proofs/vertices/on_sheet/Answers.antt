@@ -1,7 +1,6 @@
 -- Left of the western margin or right of the eastern one the rule fails; between them, the range decides.
 use mathlib.Core.Path.{sym, ◌∙◌}
 use native.Mathlib.Omega.{arith}
-use borrow.Author.Rules.{rules}
 use Rattle.subdivision.specs.Formula.{Formula, both, isAtMost}
 use Rattle.subdivision.specs.Rules.{in_range}
 use Rattle.theory.proofs.Decide.{held, fails, both_goes_on, both_ends}

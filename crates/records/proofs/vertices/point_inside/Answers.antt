@@ -1,7 +1,6 @@
 -- A point that fails a test breaks the rule there; past the first three tests, the last one decides.
 use mathlib.Core.Path.{sym, ◌∙◌}
 use native.Mathlib.Omega.{arith}
-use borrow.Author.Rules.{rules}
 use borrow.Author.Tests.{leb-true, leb-false, not-true, not-false}
 use Rattle.subdivision.specs.Formula.{Formula, both, isAtMost}
 use Rattle.subdivision.specs.Rules.{in_range}

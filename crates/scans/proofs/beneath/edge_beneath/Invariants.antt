@@ -1,12 +1,7 @@
 -- The loop's invariant: of the edges passed, the best is the highest beneath the point. The measure is how many are left.
-use mathlib.Core.Path.{◌≡◌, sym, ◌∙◌}
-use mathlib.Core.Logic.{⊎_elim}
-use Prim.Native.Nat.{◌+◌, ◌≤◌, ◌-◌, ◌/◌}
-use native.Mathlib.Omega.{arith}
-use borrow.Author.Rules.{rules}
-use lib.ListN.{length}
-use Rattle.scans.specs.Scans.{highest_to, edge_beneath}
-use Rattle.scans.proofs.OnePass.{highest_taken, highest_kept}
+use mathlib.Core.Path.{◌≡◌}
+use Prim.Native.Nat.{◌≤◌, ◌-◌}
+use Rattle.scans.specs.Scans.{highest_to}
 use Rattle.scans.proofs.beneath.edge_beneath.Given as goal
 
 abbrev pub invariant-loop-e : goal.invariant-loop-e

@@ -1,7 +1,6 @@
 -- An edge that does not cover x is not beneath the point; of one that does, the side decides.
 use mathlib.Core.Path.{◌≡◌, sym, ap, ◌∙◌}
 use native.Mathlib.Nat.{le_of_lt, le_of_eq}
-use borrow.Author.Rules.{rules}
 use borrow.Author.Tests.{lt-ltb, le-ltb, not-true, not-false}
 use Rattle.subdivision.specs.declared.Segment.{Segment}
 use Rattle.subdivision.specs.declared.Side.{Side}

@@ -1,7 +1,6 @@
 -- The order at the western end answers where g is lower there, and otherwise the order at the eastern end.
 use mathlib.Core.Path.{sym, ◌∙◌}
 use mathlib.Core.Bool.{true, false}
-use borrow.Author.Rules.{rules}
 use Rattle.geometry.specs.Crossing.{lower_beside}
 use Rattle.theory.proofs.Decide.{either_goes_on, either_ends}
 use Rattle.scans.proofs.beneath.lower_between.Goals as goal

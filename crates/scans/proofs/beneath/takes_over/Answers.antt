@@ -1,6 +1,5 @@
 -- An edge takes over where it is beneath the point, and none was found before or it is higher.
 use mathlib.Core.Path.{◌≡◌, sym, ap₂, ◌∙◌}
-use borrow.Author.Rules.{rules}
 use borrow.Author.Tests.{eq-eqb, ne_eqb, not-true, not-false}
 use Rattle.subdivision.specs.declared.Segment.{Segment}
 use Rattle.subdivision.specs.Formula.{Formula, isEqual, both, either, holds}

@@ -1,6 +1,5 @@
 -- With an edge beneath the point the answer is the zone above it, and with none the first zone.
 use mathlib.Core.Path.{sym, ◌∙◌}
-use borrow.Author.Rules.{rules}
 use Rattle.scans.proofs.Answers.{zone_above, zone_first}
 use Rattle.scans.proofs.beneath.zone_beneath.Goals as goal
 

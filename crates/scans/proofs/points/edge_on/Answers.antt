@@ -1,12 +1,10 @@
 use mathlib.Core.Path.{◌≡◌, sym, ap, ◌∙◌}
-use Prim.Native.Nat.{◌-◌}
 use native.Mathlib.Omega.{arith}
-use borrow.Author.Rules.{rules}
 use Rattle.subdivision.specs.declared.Segment.{Segment}
 use Rattle.subdivision.specs.Formula.{holds}
 use Rattle.subdivision.specs.Sheet.{segment_of}
 use Rattle.subdivision.specs.Lines.{is_on}
-use Rattle.theory.proofs.Lowest.{Searched, search_starts, search_goes_on, search_ends}
+use Rattle.theory.proofs.Lowest.{search_starts, search_goes_on, search_ends}
 use Rattle.scans.proofs.points.edge_on.Lts as lts
 use Rattle.scans.proofs.points.edge_on.Tie as tie
 use Rattle.scans.proofs.points.edge_on.Reads as reads

@@ -1,13 +1,9 @@
 -- The loop's invariant: the point is on none of the edges passed. The measure is how many are left.
-use mathlib.Core.Path.{◌≡◌, sym, ap, ◌∙◌}
 use Prim.Native.Nat.{◌-◌}
-use native.Mathlib.Omega.{arith}
-use borrow.Author.Rules.{rules}
-use Rattle.subdivision.specs.declared.Segment.{Segment}
 use Rattle.subdivision.specs.Formula.{holds}
 use Rattle.subdivision.specs.Sheet.{segment_of}
 use Rattle.subdivision.specs.Lines.{is_on}
-use Rattle.theory.proofs.Lowest.{Searched, search_starts, search_goes_on, search_ends}
+use Rattle.theory.proofs.Lowest.{Searched}
 use Rattle.scans.proofs.points.edge_on.Given as goal
 
 abbrev pub invariant-loop-e : goal.invariant-loop-e

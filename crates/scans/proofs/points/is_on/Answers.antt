@@ -2,7 +2,6 @@
 use mathlib.Core.Path.{◌≡◌, sym, ◌∙◌}
 use native.Mathlib.Nat.{ne_of_lt, ne_of_gt}
 use native.Mathlib.Omega.{arith}
-use borrow.Author.Rules.{rules}
 use borrow.Author.Tests.{eq-eqb, ne_eqb}
 use Rattle.subdivision.specs.declared.Side.{Side}
 use Rattle.subdivision.specs.Formula.{Formula, both, isAtMost, isEqual, holds}

@@ -1,6 +1,5 @@
 -- The vertex scan answers first, then the scan of edges through the point, then the zone read from beneath.
 use mathlib.Core.Path.{sym, ap, ◌∙◌}
-use borrow.Author.Rules.{rules}
 use Rattle.subdivision.specs.declared.Answer.{Answer}
 use Rattle.scans.proofs.Answers.{placed_vertex, placed_edge, placed_zone}
 use Rattle.scans.proofs.points.place.Goals as goal

@@ -1,16 +1,11 @@
 -- The loop's invariant: none of the vertices passed is the point. The measure is how many are left.
-use mathlib.Core.Path.{sym, ◌∙◌}
 use mathlib.Core.List.{[]}
-use mathlib.Core.Logic.{⊎_elim}
 use Prim.Native.Nat.{◌-◌}
-use native.Mathlib.Omega.{arith}
-use borrow.Author.Rules.{rules}
 use lib.IntN.{pos}
 use Rattle.subdivision.specs.Formula.{holds}
 use Rattle.subdivision.specs.Sheet.{sheet_of}
 use Rattle.subdivision.specs.Reading.{is_vertex}
-use Rattle.theory.proofs.Decide.{held, fails}
-use Rattle.theory.proofs.Lowest.{Searched, search_starts, search_goes_on, search_ends}
+use Rattle.theory.proofs.Lowest.{Searched}
 use Rattle.scans.proofs.points.vertex_at.Given as goal
 
 abbrev pub invariant-loop-v : goal.invariant-loop-v

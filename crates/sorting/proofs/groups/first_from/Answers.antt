@@ -1,14 +1,8 @@
-use mathlib.Core.Path.{◌≡◌, refl, sym, ◌∙◌}
-use mathlib.Core.Bool.{Bool}
-use mathlib.Core.List.{List}
-use Prim.Native.Nat.{ℕ, ◌-◌}
+use mathlib.Core.Path.{refl, sym, ◌∙◌}
 use native.Mathlib.Numerals.{add-one}
 use native.Mathlib.Omega.{arith}
-use borrow.Author.Rules.{rules}
 use borrow.Author.Tests.{le-leb, lt-leb}
-use lib.Dec.{leb}
 use lib.ListN.{length, get_or}
-use Rattle.subdivision.specs.Lowest.{lowest_from}
 use Rattle.theory.proofs.Lowest.{lowest_from_next, lowest_from_found, lowest_from_end}
 use Rattle.sorting.proofs.groups.first_from.Invariants.{reaches}
 use Rattle.sorting.proofs.groups.first_from.Goals as goal

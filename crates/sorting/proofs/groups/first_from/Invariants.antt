@@ -1,16 +1,11 @@
 -- The loop's invariant: the search from i on is the search from the first place on. The measure is what is left.
-use mathlib.Core.Path.{◌≡◌, refl, sym, ◌∙◌}
+use mathlib.Core.Path.{◌≡◌}
 use mathlib.Core.Bool.{Bool}
 use mathlib.Core.List.{List}
 use Prim.Native.Nat.{ℕ, ◌-◌}
-use native.Mathlib.Numerals.{add-one}
-use native.Mathlib.Omega.{arith}
-use borrow.Author.Rules.{rules}
-use borrow.Author.Tests.{le-leb, lt-leb}
 use lib.Dec.{leb}
 use lib.ListN.{length, get_or}
 use Rattle.subdivision.specs.Lowest.{lowest_from}
-use Rattle.theory.proofs.Lowest.{lowest_from_next, lowest_from_found, lowest_from_end}
 use Rattle.sorting.proofs.groups.first_from.Given as goal
 
 -- the number at place i has a key of the bound or more

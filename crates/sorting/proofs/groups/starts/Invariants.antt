@@ -1,16 +1,9 @@
 -- The loop's invariant: the first k places hold the first k starts, and no key before `at` reaches group k. The measure is what is left.
-use mathlib.Core.Path.{◌≡◌, refl, sym, ◌∙◌}
-use mathlib.Core.List.{[], ◌∷◌, ◌++◌}
-use Prim.Native.Nat.{ℕ, ◌*◌, ◌≤◌, ◌<◌, ◌+◌, ◌-◌}
-use native.Mathlib.Nat.{not-suc-le-zero}
-use native.Mathlib.Numerals.{add-one}
-use native.Mathlib.Omega.{arith}
-use borrow.Author.Rules.{rules}
-use lib.ListN.{length, get_or, take, length-set}
-use lib.Seq.{take-suc-set, take_all}
+use mathlib.Core.Path.{◌≡◌}
+use Prim.Native.Nat.{ℕ, ◌*◌, ◌≤◌, ◌<◌, ◌-◌}
+use lib.ListN.{length, get_or, take}
 use Rattle.subdivision.specs.Lists.{tab}
-use Rattle.theory.proofs.Groups.{group_start, group_start_le, before_group, group_start_from}
-use Rattle.theory.proofs.Lists.{tab_more}
+use Rattle.theory.proofs.Groups.{group_start}
 use Rattle.sorting.proofs.groups.starts.Given as goal
 
 abbrev pub invariant-loop-k : goal.invariant-loop-k
