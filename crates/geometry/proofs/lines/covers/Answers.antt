@@ -10,13 +10,13 @@ returns-then-x-xe c = rw (le-leb _ _ c.if-xw-x.true, holds) (rw (lt-ltb _ _ c.if
 pub returns-then-x-margin : goal.returns-then-x-margin
 returns-then-x-margin c =
     elim c.if-xw-x.branch [
-      then-xw-x+else-x-xe w ↦ rw (le-leb _ _ w.if-xw-x.true, holds) (rw (le-ltb _ _ w.if-x-xe.false) (rw (eq-eqb _ _ c.if-x-margin.true)))
+      | then-xw-x+else-x-xe w ↦ rw (le-leb _ _ w.if-xw-x.true, holds) (rw (le-ltb _ _ w.if-x-xe.false) (rw (eq-eqb _ _ c.if-x-margin.true)))
       | else-xw-x w ↦ rw (lt-leb _ _ w.if-xw-x.false, holds) (rw (eq-eqb _ _ c.if-x-margin.true))
     ]
 
 pub returns : goal.returns
 returns c =
     elim c.if-xw-x.branch [
-      then-xw-x+else-x-xe w ↦ rw (le-leb _ _ w.if-xw-x.true, holds) (rw (le-ltb _ _ w.if-x-xe.false) (rw (ne_eqb _ _ c.if-x-margin.false)))
+      | then-xw-x+else-x-xe w ↦ rw (le-leb _ _ w.if-xw-x.true, holds) (rw (le-ltb _ _ w.if-x-xe.false) (rw (ne_eqb _ _ c.if-x-margin.false)))
       | else-xw-x w ↦ rw (lt-leb _ _ w.if-xw-x.false, holds) (rw (ne_eqb _ _ c.if-x-margin.false))
     ]

@@ -17,7 +17,7 @@ loop-e-preserved c =
     let takes = sym c.takes_over.ensures in
     let next : c.if-takes_over.best ≡ highest_to a.vertices.now a.edges.now a.x a.y a.margin count (l.e + 1) =
     elim c.if-takes_over.branch [
-      then-takes_over w ↦ w.best-is ∙ highest_taken a.vertices.now a.edges.now a.x a.y a.margin count l.best l.e l.invariant.1 (takes ∙ w.if-takes_over.true)
+      | then-takes_over w ↦ w.best-is ∙ highest_taken a.vertices.now a.edges.now a.x a.y a.margin count l.best l.e l.invariant.1 (takes ∙ w.if-takes_over.true)
       | else-takes_over w ↦ w.best-is ∙ highest_kept a.vertices.now a.edges.now a.x a.y a.margin count l.best l.e l.invariant.1 (takes ∙ w.if-takes_over.false)
     ]
     in (omega arith, next)

@@ -29,7 +29,7 @@ loop-v-preserved c =
     let here = is_vertex (sheet_of (pos 0) (pos 0) c.args.vertices.now [] 0) c.args.x c.args.y l.v in
     search_goes_on _ _ _ l.invariant (omega arith) (fails here (λ m.
     elim c.if-vertex_x-x.branch [
-      then-vertex_x-x+else-vertex_y-y w ↦ w.if-vertex_y-y.false (w.vertex_y.ensures ∙ m.1)
+      | then-vertex_x-x+else-vertex_y-y w ↦ w.if-vertex_y-y.false (w.vertex_y.ensures ∙ m.1)
       | else-vertex_x-x w ↦ w.if-vertex_x-x.false (c.vertex_x.ensures ∙ m.0)
     ]))
 
