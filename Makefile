@@ -6,14 +6,14 @@
 .PHONY: run cases test bench
 
 run:
-	@rt check place > /dev/null || rt check place
-	@target/bin/place < crates/place/stdin
+	@mkdir -p target
+	@cd crates/place && rt run < stdin 2> ../../target/place.log || { tail -n 20 ../../target/place.log; exit 1; }
 	@tests/rust/library
 	@CARGO_TARGET_DIR=target/rust cargo run --quiet --offline --release --manifest-path tests/rust/Cargo.toml --bin month
 
 cases:
-	@rt check cases > /dev/null || rt check cases
-	@target/bin/cases
+	@mkdir -p target
+	@cd crates/cases && rt run 2> ../../target/cases.log || { tail -n 20 ../../target/cases.log; exit 1; }
 
 test:
 	@tests/all

@@ -1,6 +1,6 @@
 /* Thawweasel: proved point location on a sheet of zones.
  *
- * Link target/staticlib/libexports.a, which `rt staticlib exports` writes once the crate is proved.
+ * Link crates/exports/out/libexports.a, which `rt lib` in crates/exports writes once the crate is proved.
  *
  * A sheet is two margins, a table of vertices (x, y), a table of edges (western vertex, eastern vertex, zone above, zone below)
  * and a number of zones n; V vertices, m edges and n zones are numbered from 0. A length is a number of words, not of records.

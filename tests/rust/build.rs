@@ -1,8 +1,9 @@
-//! Links the proved libraries that `rt staticlib` writes.
+//! Links the proved libraries that `rt lib` writes.
 fn main() {
-    let folder = std::path::Path::new(env!("CARGO_MANIFEST_DIR")).join("../../target/staticlib");
-    println!("cargo:rustc-link-search=native={}", folder.display());
+    let crates = std::path::Path::new(env!("CARGO_MANIFEST_DIR")).join("../../crates");
     for name in ["leaves", "exports"] {
+        let folder = crates.join(name).join("out");
+        println!("cargo:rustc-link-search=native={}", folder.display());
         println!("cargo:rerun-if-changed={}", folder.join(format!("lib{name}.a")).display());
     }
 }

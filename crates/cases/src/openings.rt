@@ -1,4 +1,5 @@
 use crate::{EDGES, LENT, VERTICES, number, text};
+use std::io;
 use subdivision::Verdict;
 
 // The lens sheet with the x of vertex 3 at 1,000,000,000.
@@ -41,37 +42,39 @@ const WEDGE_VERTICES: [i32; 6] = [4, 0, 0, 1, 0, -1];
 // The edges of the wedge.
 const WEDGE: [u32; 8] = [1, 0, 2, 1, 2, 0, 3, 0];
 
-fn verdict(v: Verdict) {
+fn verdict(rt: &impl Print, v: Verdict) -> io::Result<()> {
     match v {
-        Verdict::Passed => text(b" opened:"),
+        Verdict::Passed => text(rt, b" opened:"),
         Verdict::Refused(refusal, item) => {
-            text(b" refused");
-            number(refusal);
-            number(item);
-            text(b":");
+            text(rt, b" refused")?;
+            number(rt, refusal)?;
+            number(rt, item)?;
+            text(rt, b":")
         }
     }
 }
 
 // The first words, so many of them or all there are.
-pub(crate) fn front(words: &[u32], count: usize) {
+pub(crate) fn front(rt: &impl Print, words: &[u32], count: usize) -> io::Result<()> {
     let mut i = 0;
     while i < words.len() {
         if i < count {
-            number(words[i]);
+            number(rt, words[i])?;
         }
         i += 1;
     }
+    Ok(())
 }
 
 // Every word, to the end of the line.
-pub(crate) fn words(words: &[u32]) {
-    front(words, words.len());
-    text(b"\n");
+pub(crate) fn words(rt: &impl Print, words: &[u32]) -> io::Result<()> {
+    front(rt, words, words.len())?;
+    text(rt, b"\n")
 }
 
 // Opens a sheet over lent words, and prints the verdict and every word afterwards.
 pub(crate) fn opened(
+    rt: &impl Print,
     name: &[u8],
     west: i32,
     east: i32,
@@ -79,17 +82,21 @@ pub(crate) fn opened(
     edges: &[u32],
     zones: u32,
     index: &mut [u32],
-) {
-    text(name);
-    verdict(opening::open_sheet(west, east, vertices, edges, zones, index));
-    words(index);
+) -> io::Result<()> {
+    text(rt, name)?;
+    verdict(
+        rt,
+        opening::open_sheet(west, east, vertices, edges, zones, index),
+    )?;
+    words(rt, index)
 }
 
-fn lenses() {
+fn lenses(rt: &impl Print) -> io::Result<()> {
     let vertices = VERTICES;
     let edges = EDGES;
     let mut short = [LENT; 13];
     opened(
+        rt,
         b"the lens, 13 words:",
         0,
         4,
@@ -97,10 +104,11 @@ fn lenses() {
         &edges,
         3,
         &mut short,
-    );
+    )?;
     let far = FAR;
     let mut room = [LENT; 14];
     opened(
+        rt,
         b"x = 1,000,000,000:",
         0,
         1000000000,
@@ -108,10 +116,11 @@ fn lenses() {
         &edges,
         3,
         &mut room,
-    );
+    )?;
     let beyond = TOO_FAR;
     let mut other = [LENT; 14];
     opened(
+        rt,
         b"x = 1,000,000,001:",
         0,
         1000000000,
@@ -119,9 +128,10 @@ fn lenses() {
         &edges,
         3,
         &mut other,
-    );
+    )?;
     let mut less = [LENT; 13];
     opened(
+        rt,
         b"x = 1,000,000,001, 13 words:",
         0,
         1000000000,
@@ -129,18 +139,19 @@ fn lenses() {
         &edges,
         3,
         &mut less,
-    );
+    )
 }
 
-fn twins() {
+fn twins(rt: &impl Print) -> io::Result<()> {
     let vertices = TWINS;
     let circle = CIRCLE;
     let mut first = [LENT; 23];
-    opened(b"the circle:", 0, 4, &vertices, &circle, 4, &mut first);
+    opened(rt, b"the circle:", 0, 4, &vertices, &circle, 4, &mut first)?;
     let lower = BENEATH_VERTICES;
     let beneath = BENEATH;
     let mut other = [LENT; 35];
     opened(
+        rt,
         b"a circle between 5 and 6 beneath zone 2:",
         0,
         4,
@@ -148,21 +159,31 @@ fn twins() {
         &beneath,
         7,
         &mut other,
-    );
+    )?;
     let alike = ALIKE;
     let mut second = [LENT; 23];
-    opened(b"two like lenses:", 0, 4, &vertices, &alike, 4, &mut second);
+    opened(
+        rt,
+        b"two like lenses:",
+        0,
+        4,
+        &vertices,
+        &alike,
+        4,
+        &mut second,
+    )?;
     let corners = WEDGE_VERTICES;
     let wedge = WEDGE;
     let mut third = [LENT; 15];
-    opened(b"the wedge:", 0, 4, &corners, &wedge, 4, &mut third);
+    opened(rt, b"the wedge:", 0, 4, &corners, &wedge, 4, &mut third)
 }
 
-fn blanks() {
+fn blanks(rt: &impl Print) -> io::Result<()> {
     let vertices = [0i32; 2];
     let edges = [0u32; 4];
     let mut first = [LENT; 8];
     opened(
+        rt,
         b"nothing drawn, n = 2:",
         0,
         4,
@@ -170,9 +191,10 @@ fn blanks() {
         &edges[..0],
         2,
         &mut first,
-    );
+    )?;
     let mut second = [LENT; 5];
     opened(
+        rt,
         b"nothing drawn, n = 1:",
         0,
         4,
@@ -180,9 +202,10 @@ fn blanks() {
         &edges[..0],
         1,
         &mut second,
-    );
+    )?;
     let mut third = [LENT; 5];
     opened(
+        rt,
         b"nothing drawn, n = 0:",
         0,
         4,
@@ -190,12 +213,12 @@ fn blanks() {
         &edges[..0],
         0,
         &mut third,
-    );
+    )
 }
 
 // The worked sheets of document 01, and a wedge for rule 5's western clause.
-pub(crate) fn openings() {
-    lenses();
-    twins();
-    blanks();
+pub(crate) fn openings(rt: &impl Print) -> io::Result<()> {
+    lenses(rt)?;
+    twins(rt)?;
+    blanks(rt)
 }

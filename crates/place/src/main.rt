@@ -1,20 +1,33 @@
 // The program: reads a page of frames on standard input and prints a line for each of its points.
 #![tactic(auto)]
 
-use frames::{MAX_PAGE, MAX_TEXT, Written};
-use libc::{STDIN_FILENO, STDOUT_FILENO};
-use placing::place_page;
+ghost use Rattle.std.specs.Prelude.{◌≤◌, length, IfOk};
 
-fn main() {
+use frames::{MAX_PAGE, MAX_TEXT, Written};
+use placing::place_page;
+use std::io::{self, Read};
+
+// Reads until `buf` is full or the input ends, and gives how many bytes it put at the front of `buf`.
+fn read_full(input: &mut impl Read, buf: &mut [u8]) -> io::Result<usize>
+    ensures { IfOk result (λ n. n ≤ length buf.new) }
+{
+    let mut done = 0;
+    while done < buf.len() {
+        let n = input.read(&mut buf[done..])?;
+        if n == 0 {
+            break;
+        }
+        done += n;
+    }
+    Ok(done)
+}
+
+fn main(rt: HostRuntime) -> io::Result<()> {
     let mut page = [0u8; MAX_PAGE + 1];
     let mut text = [0u8; MAX_TEXT];
-    let n = io::read_full(STDIN_FILENO, &mut page);
+    let n = read_full(&mut rt.stdin(), &mut page)?;
     match place_page(&page[..n], &mut text) {
-        Written::Text(count) => {
-            io::write_all(STDOUT_FILENO, &text[..count]);
-        }
-        Written::Refused(_) => {
-            io::write_all(STDOUT_FILENO, b"refused 33 0\n");
-        }
+        Written::Text(count) => rt.write_all(&text[..count]),
+        Written::Refused(_) => rt.write_all(b"refused 33 0\n"),
     }
 }

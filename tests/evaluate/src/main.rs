@@ -21,28 +21,25 @@ const VERTICES: usize = 64;
 const READINGS: usize = 4;
 
 const USES: &str = "\
-use mathlib.Core.Path.{_≡_, refl}
-use mathlib.Core.List.{List, [], _∷_}
-use lib.IntN.{pos, negsuc}
-use lib.ListN.{replicate}
-use Rattle·subdivision.specs.declared.Answer.{Answer}
-use Rattle·subdivision.specs.declared.Verdict.{Verdict}
-use Rattle·subdivision.specs.Limits.{earlierLimits}
-use Rattle·subdivision.specs.Lowest.{lowest}
-use Rattle·subdivision.specs.Lists.{tab}
-use Rattle·subdivision.specs.Dyadic.{bits, topBit, lowBit, lca}
-use Rattle·subdivision.specs.Order.{inOrder}
-use Rattle·subdivision.specs.Sheet.{Sheet}
-use Rattle·subdivision.specs.ZoneLine.{nextZone, zoneLine}
-use Rattle·subdivision.specs.Reading.{firstZone, zoneBeneath, plainReading}
-use Rattle·subdivision.specs.Index.{placeOf, zoneAt, chainOf, eastward, chain, startOf, indexWords}
-use Rattle·subdivision.specs.Descent.{descent, indexDescent}
-use Rattle·subdivision.specs.Refusals.{names}
-use Rattle·subdivision.specs.Earlier.{earlierCircleRefusal}
-use Rattle·subdivision.specs.Calls.{Opened, Searched, openingUnder, readingUnder, searchingUnder, opening, reading, searching}
+use Rattle.std.specs.Prelude.{◌≡◌, refl, List, [], ◌∷◌, pos, negsuc, replicate}
+use Rattle.subdivision.specs.declared.Answer.{Answer}
+use Rattle.subdivision.specs.declared.Verdict.{Verdict}
+use Rattle.subdivision.specs.Limits.{earlier_limits}
+use Rattle.subdivision.specs.Lowest.{lowest}
+use Rattle.subdivision.specs.Lists.{tab}
+use Rattle.subdivision.specs.Dyadic.{bits, top_bit, low_bit, lca}
+use Rattle.subdivision.specs.Order.{in_order}
+use Rattle.subdivision.specs.Sheet.{Sheet}
+use Rattle.subdivision.specs.ZoneLine.{next_zone, zone_line}
+use Rattle.subdivision.specs.Reading.{first_zone, zone_beneath, plain_reading}
+use Rattle.subdivision.specs.Index.{place_of, zone_at, chain_of, eastward, chain, start_of, index_words}
+use Rattle.subdivision.specs.Descent.{descent, index_descent}
+use Rattle.subdivision.specs.Refusals.{names}
+use Rattle.subdivision.specs.Earlier.{earlier_circle_refusal}
+use Rattle.subdivision.specs.Calls.{Opened, Searched, opening_under, reading_under, searching_under, opening, reading, searching}
 ";
-const UNFOLDING: &str = "unfolding opening reading searching descent indexDescent placeOf zoneAt chainOf eastward chain startOf \
-indexWords firstZone zoneBeneath plainReading nextZone zoneLine inOrder bits topBit lowBit lca lowest tab";
+const UNFOLDING: &str = "unfolding opening reading searching descent index_descent place_of zone_at chain_of eastward chain start_of \
+index_words first_zone zone_beneath plain_reading next_zone zone_line in_order bits top_bit low_bit lca lowest tab";
 
 fn integer(v: i32) -> String {
     if v < 0 { format!("negsuc {}", -1 - i64::from(v)) } else { format!("pos {v}") }
@@ -114,7 +111,7 @@ impl Module {
     /// Adds the equation of a call under the earlier limits, and that of the call where the limits make a difference; says whether it is
     /// added.
     fn call<T: std::fmt::Debug + PartialEq>(&mut self, name: &str, a: &Amended<T>, equation: impl Fn(&str, &T) -> String) -> bool {
-        self.equate(&equation(&format!("{name}Under earlierLimits"), &a.earlier));
+        self.equate(&equation(&format!("{name}_under earlier_limits"), &a.earlier));
         let evaluated = a.differs() && (name != "reading" || self.sheet.vertices.len() <= 2 * VERTICES);
         if evaluated {
             self.equate(&equation(name, &a.now));
@@ -131,7 +128,7 @@ impl Module {
             Line::Open { lent, said } => {
                 let differs = self.call("opening", &amended::open(&s, lent, said), |name, a| opened(name, lent.len(), a));
                 if said.0[0] == 13 {
-                    self.equate(&format!("names (earlierCircleRefusal sheet) ≡ {}", said.0[1]));
+                    self.equate(&format!("names (earlier_circle_refusal sheet) ≡ {}", said.0[1]));
                 }
                 differs
             }

@@ -1,0 +1,10 @@
+-- The loop ends where the buffer is full.
+use Rattle.std.proofs.Common.{length, ◌-◌, ◌≤◌}
+use Rattle.place.proofs.read_full.Given as goal
+
+abbrev pub invariant-loop-done : goal.invariant-loop-done
+invariant-loop-done g l = l.done ≤ length l.initial.buf
+
+-- the room that is left
+abbrev pub decreases-loop-done : goal.decreases-loop-done
+decreases-loop-done g l = length l.initial.buf - l.done
