@@ -17,7 +17,13 @@ import sys
 WORD = r"[^\s(){}.;,@\"«»]+"
 TOKEN = re.compile(WORD)
 MARKS = r"(?:(?:pub|abbrev|unfoldable|opaque|private|instance|elim)\s+)*"
-TOP = re.compile(rf"(?m)^ *{MARKS}(?P<name>[^\s(){{}}.;,@\"«»:]+)(?: +[^:\n]*?)? :(?= )")
+TOP = re.compile(rf"(?m)^ *{MARKS}(?P<name>[^\s(){{}}.;,@\"«»:]+)(?: +[^:\n]*?)? :(?= |$)")
+# A name alone on a line, its type on the next.
+ALONE = re.compile(r"(?m)^ *(?:pub|abbrev) (?P<name>[^\s(){}.;,@\"«»:]+)$")
+# What an equation or a let takes apart.
+TAKEN_APART = re.compile(rf"(?m)^ *[^\s:=(){{}}]+(?P<names>(?: {WORD})+) =(?= |$)|\blet \((?P<parts>[^()=:]*)\) =")
+# Constructors of one type, declared in one line.
+MANY = re.compile(rf"(?m)^  (?P<names>{WORD}(?: {WORD})+) : ")
 BOUND = re.compile(rf"[({{](?P<names>{WORD}(?: {WORD})*) : ")
 LET = re.compile(rf"\blet (?P<name>{WORD})(?= |$)")
 FIELD = re.compile(rf"[{{;]\s*(?P<name>{WORD}) :(?= )")
@@ -59,6 +65,11 @@ def declared(code):
     names = {m["name"] for m in TOP.finditer(code)}
     names |= {m["name"] for m in FIELD.finditer(code)}
     names |= {m["name"] for m in LET.finditer(code)}
+    names |= {m["name"] for m in ALONE.finditer(code)}
+    for m in TAKEN_APART.finditer(code):
+        names.update(re.findall(WORD, m["names"] or m["parts"]))
+    for m in MANY.finditer(code):
+        names.update(m["names"].split())
     for m in BOUND.finditer(code):
         names.update(m["names"].split())
     for m in re.finditer(r"λ ([^.()]+)\.", code):

@@ -4,7 +4,7 @@
 ghost use Rattle.std.specs.Prelude.{◌≡◌, List, ℕ, ◌+◌, ◌-◌, ◌≤◌, ◌<◌, ◌/◌, pos, length, take};
 ghost use Rattle.subdivision.specs.declared.Answer.{Answer};
 ghost use Rattle.subdivision.specs.Limits.{max_edges, max_zones};
-ghost use Rattle.subdivision.specs.Formula.{both, isEqual, holds};
+ghost use Rattle.subdivision.specs.Formula.{both, is_equal, holds};
 ghost use Rattle.subdivision.specs.Dyadic.{bits, top_bit, low_bit};
 ghost use Rattle.subdivision.specs.Sheet.{sheet_of};
 ghost use Rattle.subdivision.specs.Descent.{examined, examine, turn, index_look_ups, index_descent};
@@ -221,7 +221,7 @@ fn answer_on(vertices: &[i32], edges: &[u32], e: u32, x: u32, y: u32) -> Answer
 
 // Whether two points are the same.
 fn is_point(px: u32, py: u32, x: u32, y: u32) -> bool
-    ensures { result ≡ holds (both (isEqual px x) (isEqual py y)) }
+    ensures { result ≡ holds (both (is_equal px x) (is_equal py y)) }
 {
     if px != x {
         return false;

@@ -4,7 +4,7 @@ use mathlib.Core.Bool.{true, false, not}
 use mathlib.Core.List.{List}
 use Prim.Native.Nat.{ℕ}
 use lib.IntN.{ℤ}
-use Rattle.subdivision.specs.Formula.{Formula, isEqual, both, not_so, holds}
+use Rattle.subdivision.specs.Formula.{Formula, is_equal, both, not_so, holds}
 use Rattle.subdivision.specs.Sheet.{vertex_x}
 use Rattle.theory.proofs.Decide.{held, fails}
 use Rattle.fans.specs.Fans.{fan_of, margin_tied, fault_between}
@@ -13,7 +13,7 @@ use Rattle.theory.proofs.Choices.{first_choice}
 module _ (west : ℕ) (vertices : List ℤ) (edges : List ℕ) (under over : ℕ) where
   -- the two vertices are on the margin
   abbrev on_margin : Formula
-  on_margin = both (isEqual (vertex_x vertices under) west) (isEqual (vertex_x vertices over) west)
+  on_margin = both (is_equal (vertex_x vertices under) west) (is_equal (vertex_x vertices over) west)
 
   -- their fans are tied
   abbrev fans_meet : Formula

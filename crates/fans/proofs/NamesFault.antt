@@ -4,7 +4,7 @@ use mathlib.Core.Bool.{Bool, true, false, not}
 use Prim.Native.Nat.{ℕ, suc, ◌-◌, ◌<◌, min}
 use native.Mathlib.Omega.{arith}
 use borrow.Author.Tests.{not-true}
-use Rattle.subdivision.specs.Formula.{Formula, isEqual, both, implies, not_so, holds, Means}
+use Rattle.subdivision.specs.Formula.{Formula, is_equal, both, implies, not_so, holds, Means}
 use Rattle.subdivision.specs.Lowest.{lowest}
 use Rattle.subdivision.specs.Sheet.{Sheet, west_margin, vertex_count, x_of}
 use Rattle.subdivision.specs.Rules.{western_names, eastern_names, tops_and_bottoms, next_on_margin, margin_names, names_agree}
@@ -25,7 +25,7 @@ module _ (s : Sheet) (rule1 : Rule1 s) (rule2 : Rule2 s) (rule4 : Rule4 s) where
   -- what the test at a place of the points in order says
   abbrev fault_at : ℕ → Formula
   fault_at i =
-      both (both (isEqual (x_of s (point_at s i)) (west_margin s)) (isEqual (x_of s (point_at s (suc i))) (west_margin s)))
+      both (both (is_equal (x_of s (point_at s i)) (west_margin s)) (is_equal (x_of s (point_at s (suc i))) (west_margin s)))
       (not_so (tied_on (point_at s i) (point_at s (suc i))))
 
   tied_on_decides : (v u : ℕ) → holds (tied_on v u) ≡ holds (top_meets_bottom s v u)

@@ -5,7 +5,7 @@ use mathlib.Core.List.{List}
 use mathlib.Core.Logic.{inl, inr, ⊎_elim}
 use Prim.Native.Nat.{ℕ, ◌<◌}
 use lib.ListN.{length, get_or}
-use Rattle.subdivision.specs.Formula.{Formula, isEqual, both, implies, every_below, holds, Means}
+use Rattle.subdivision.specs.Formula.{Formula, is_equal, both, implies, every_below, holds, Means}
 use Rattle.subdivision.specs.Sheet.{Sheet, edge_count, x_of, above_of, below_of}
 use Rattle.subdivision.specs.Neighbours.{is_highest, is_lowest}
 use Rattle.subdivision.specs.Rules.{line_west_of, line_east_of, eastern_edge, fan_agrees, western_names, eastern_names, tops_and_bottoms}
@@ -27,13 +27,13 @@ same_holds p q f g = computes q (holds p) (λ e. f (means p e)) (λ e m. denies 
 module _ (s : Sheet) where
   -- rule 5 in the eastern or western fan of vertex v
   abbrev fan_names : Bool → ℕ → Formula
-  fan_names eastern v = fan_agrees s (line_beside eastern (x_of s v) 1) (λ e. isEqual (end_of s eastern e) v)
+  fan_names eastern v = fan_agrees s (line_beside eastern (x_of s v) 1) (λ e. is_equal (end_of s eastern e) v)
 
   -- the top eastern edge of vertex v has as its zone above the zone below the bottom eastern edge of vertex u
   abbrev pub top_meets_bottom : ℕ → ℕ → Formula
   top_meets_bottom v u =
       every_below (edge_count s) (λ e. every_below (edge_count s) (λ f.
-      implies (both (is_highest s (line_east_of s v) (eastern_edge s v) e) (is_lowest s (line_east_of s u) (eastern_edge s u) f)) (isEqual (above_of s e) (below_of s f))))
+      implies (both (is_highest s (line_east_of s v) (eastern_edge s v) e) (is_lowest s (line_east_of s u) (eastern_edge s u) f)) (is_equal (above_of s e) (below_of s f))))
 
   -- r is e itself or an edge of the fan above it, and none is nearer
   abbrev NearestUp : Bool → ℕ → ℕ → ℕ → Type 0

@@ -1,6 +1,6 @@
 -- The fans of a vertex as lists of edges, and rule 5 read off them by order tests.
 use Rattle.std.specs.Prelude.{◌≡◌, Bool, true, false, not, List, [], ◌∷◌, ℕ, suc, ◌-◌, ◌/◌, min, eqb, ℤ, length, get_or}
-use Rattle.subdivision.specs.Formula.{Formula, is_less, isEqual, both, either, implies, not_so, every_below, holds}
+use Rattle.subdivision.specs.Formula.{Formula, is_less, is_equal, both, either, implies, not_so, every_below, holds}
 use Rattle.subdivision.specs.Lists.{tab}
 use Rattle.subdivision.specs.Lowest.{lowest}
 use Rattle.subdivision.specs.Order.{in_order}
@@ -56,7 +56,7 @@ module _ (vertices : List ℤ) (edges : List ℕ) where
   -- edge e is the top of its fan, or its zone above is the next one's zone below
   abbrev pub tied : Bool → List ℕ → ℕ → Formula
   tied eastern fan e =
-      either (isEqual (next_in eastern fan e) e) (isEqual (edge_above edges e) (edge_below edges (next_in eastern fan e)))
+      either (is_equal (next_in eastern fan e) e) (is_equal (edge_above edges e) (edge_below edges (next_in eastern fan e)))
 
   -- rule 5 in a fan: from bottom to top, each edge's zone above is the next one's zone below
   abbrev pub fan_tied : Bool → List ℕ → Formula
@@ -70,8 +70,8 @@ module _ (vertices : List ℤ) (edges : List ℕ) where
   abbrev pub fans_tied : List ℕ → List ℕ → Formula
   fans_tied western eastern =
       implies (both_drawn western eastern)
-      (both (isEqual (edge_above edges (furthest false true western)) (edge_above edges (furthest true true eastern)))
-      (isEqual (edge_below edges (furthest false false western)) (edge_below edges (furthest true false eastern))))
+      (both (is_equal (edge_above edges (furthest false true western)) (edge_above edges (furthest true true eastern)))
+      (is_equal (edge_below edges (furthest false false western)) (edge_below edges (furthest true false eastern))))
 
   -- rule 5 at a vertex, but for the margin
   abbrev pub vertex_tied : List ℕ → List ℕ → Formula
@@ -80,7 +80,7 @@ module _ (vertices : List ℤ) (edges : List ℕ) where
   -- rule 5 on the margin: the zone above the top of the lower eastern fan is the zone below the bottom of the upper one
   abbrev pub margin_tied : List ℕ → List ℕ → Formula
   margin_tied under over =
-      implies (both_drawn under over) (isEqual (edge_above edges (furthest true true under)) (edge_below edges (furthest true false over)))
+      implies (both_drawn under over) (is_equal (edge_above edges (furthest true true under)) (edge_below edges (furthest true false over)))
 
 -- the zone above edge e, or the one below it
 abbrev pub zone_beside : List ℕ → Bool → ℕ → ℕ
@@ -111,7 +111,7 @@ vertex_fault vertices edges v = not (holds (vertex_tied vertices edges (fan_of e
 abbrev pub fault_between : ℕ → List ℤ → List ℕ → ℕ → ℕ → Bool
 fault_between west vertices edges under over =
     holds
-    (both (both (isEqual (vertex_x vertices under) west) (isEqual (vertex_x vertices over) west))
+    (both (both (is_equal (vertex_x vertices under) west) (is_equal (vertex_x vertices over) west))
     (not_so (margin_tied vertices edges (fan_of edges true under) (fan_of edges true over))))
 
 -- rule 5 is broken on the margin by the vertices at a place and at the next place of a list

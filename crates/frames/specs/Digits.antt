@@ -1,7 +1,7 @@
 -- Numbers as hexadecimal digits: document 02, P1, "each number is four bytes, high byte first, signed ones in two's complement".
 use Rattle.std.specs.Prelude.{true, false, List, ℕ, zero, suc, ◌+◌, ◌-◌, ◌*◌, ◌%◌, leb, ltb, ℤ, pos, negsuc, get_or}
 use Rattle.subdivision.specs.Limits.{origin}
-use Rattle.subdivision.specs.Formula.{Formula, isAtMost, both, either}
+use Rattle.subdivision.specs.Formula.{Formula, is_at_most, both, either}
 
 -- the highest number of four bytes
 abbrev pub highest_word : ℕ
@@ -9,7 +9,7 @@ highest_word = 4294967295
 
 -- a byte that is a lower-case hexadecimal digit: `0` to `9`, or `a` to `f`
 abbrev pub is_digit : ℕ → Formula
-is_digit b = either (both (isAtMost 48 b) (isAtMost b 57)) (both (isAtMost 97 b) (isAtMost b 102))
+is_digit b = either (both (is_at_most 48 b) (is_at_most b 57)) (both (is_at_most 97 b) (is_at_most b 102))
 
 -- the value of a digit; of a byte that is none, some number below 16
 abbrev pub digit_value : ℕ → ℕ

@@ -1,6 +1,6 @@
 -- The lines of a page, and what a line holds: document 02, P1, "one frame a line, ended by a newline".
 use Rattle.std.specs.Prelude.{true, false, List, ℕ, zero, suc, ◌+◌, ◌-◌, ◌*◌, ltb, eqb, length, get_or}
-use Rattle.subdivision.specs.Formula.{Formula, is_less, isEqual, both, every_below, holds}
+use Rattle.subdivision.specs.Formula.{Formula, is_less, is_equal, both, every_below, holds}
 use Rattle.subdivision.specs.Lowest.{lowest_from}
 use Rattle.frames.specs.declared.Line.{Line}
 use Rattle.frames.specs.declared.Line.TheVariants.{Frame, Malformed, Unfinished, End}
@@ -45,7 +45,7 @@ module _ (page : List ℕ) where
 
   -- the bytes from a place to another are a frame: hexadecimal, of a known kind, of its kind's length
   abbrev pub is_frame : ℕ → ℕ → Formula
-  is_frame at end = both (is_hexadecimal at end) (both (is_less (kind_at at) 4) (isEqual (end - at) (frame_length (kind_at at))))
+  is_frame at end = both (is_hexadecimal at end) (both (is_less (kind_at at) 4) (is_equal (end - at) (frame_length (kind_at at))))
 
   -- what stands at a place
   unfoldable pub line_at : ℕ → Line

@@ -1,7 +1,7 @@
 -- A page judged line by line, and the tables that a good one holds: document 02, P1, "head first, then exactly V vertices, m edges,
 -- any points", and its refusals.
 use Rattle.std.specs.Prelude.{◌≡◌, true, false, not, List, ◌⊎◌, ℕ, ◌+◌, ◌-◌, ◌*◌, ◌/◌, ◌%◌, ◌<◌, leb, eqb, ℤ, length}
-use Rattle.subdivision.specs.Formula.{Formula, is_less, isAtMost, isEqual, both, implies, holds, Means}
+use Rattle.subdivision.specs.Formula.{Formula, is_less, is_at_most, is_equal, both, implies, holds, Means}
 use Rattle.subdivision.specs.Lowest.{lowest}
 use Rattle.subdivision.specs.Lists.{tab, put}
 use Rattle.subdivision.specs.Sheet.{Sheet, sheet_of}
@@ -58,11 +58,11 @@ module _ (page : List ℕ) where
 
   -- the kind of line k is in order: refusal 31 where it is not
   abbrev pub is_in_order : ℕ → Formula
-  is_in_order k = isEqual (kind_at page (line_start page k)) (wanted_kind k)
+  is_in_order k = is_equal (kind_at page (line_start page k)) (wanted_kind k)
 
   -- the last check of line 0, that its counts keep document 01's limits: refusal 1 where they do not
   abbrev pub keeps_limits : ℕ → Formula
-  keeps_limits k = implies (isEqual k 0) (counts_within head_vertices head_edges head_zones)
+  keeps_limits k = implies (is_equal k 0) (counts_within head_vertices head_edges head_zones)
 
   -- line k is there whole and nothing is at fault in it
   abbrev pub is_good : ℕ → Formula
@@ -70,7 +70,7 @@ module _ (page : List ℕ) where
 
   -- the page ends where line k would begin, and no line that the head counts is missing
   abbrev pub is_end : ℕ → Formula
-  is_end k = both (isEqual (line_start page k) (length page)) (is_less (head_vertices + head_edges) k)
+  is_end k = both (is_equal (line_start page k) (length page)) (is_less (head_vertices + head_edges) k)
 
   -- the earliest line that is not good
   abbrev pub first_not_good : ℕ
@@ -116,7 +116,7 @@ module _ (page : List ℕ) where
   -- lent tables of these lengths have room for the page's, with so many points: refusal 33 where they have not
   abbrev pub room_kept : ℕ → ℕ → ℕ → ℕ → Formula
   room_kept count vertices edges points =
-      both (isAtMost (2 * head_vertices) vertices) (both (isAtMost (4 * head_edges) edges) (isAtMost (2 * count) points))
+      both (is_at_most (2 * head_vertices) vertices) (both (is_at_most (4 * head_edges) edges) (is_at_most (2 * count) points))
 
   -- the page, then the room; a refusal leaves the lent tables as they were
   unfoldable pub read_page : List ℤ → List ℕ → List ℤ → PageRead

@@ -2,7 +2,7 @@
 use Rattle.std.specs.Prelude.{◌≡◌, List, [], ◌∷◌, ◌++◌, ℕ, zero, suc, ◌+◌, ◌*◌, ◌/◌, ◌%◌, ◌≤◌, ℤ, pos, length, get_or, take}
 use Rattle.io.specs.Digits.{last_digits}
 use Rattle.subdivision.specs.declared.Verdict.TheVariants.{Passed, Refused}
-use Rattle.subdivision.specs.Formula.{Formula, isAtMost, isEqual, both}
+use Rattle.subdivision.specs.Formula.{Formula, is_at_most, is_equal, both}
 use Rattle.subdivision.specs.Lists.{put}
 use Rattle.subdivision.specs.Sheet.{Sheet, sheet_of, vertex_count, edge_count, zone_count}
 use Rattle.subdivision.specs.Refusals.{Refusal, unnamed, judged, counts_kept}
@@ -55,11 +55,11 @@ module _ (s : Sheet) (points : List ℤ) where
 
   -- the writer's refusal 1: document 01's, or a points table that is not whole
   abbrev pub writable_counts : Formula
-  writable_counts = both (counts_kept s) (isEqual (length points % 2) 0)
+  writable_counts = both (counts_kept s) (is_equal (length points % 2) 0)
 
   -- the writer's refusals in order, with a lent text of so many bytes: 1, then 33
   abbrev pub writer_refusals : ℕ → List Refusal
-  writer_refusals room = unnamed 1 writable_counts ∷ unnamed 33 (isAtMost (length page_text) room) ∷ []
+  writer_refusals room = unnamed 1 writable_counts ∷ unnamed 33 (is_at_most (length page_text) room) ∷ []
 
   -- the writer: a refusal leaves the lent text as it was
   unfoldable pub write_page : List ℕ → PageWritten

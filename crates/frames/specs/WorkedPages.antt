@@ -23,26 +23,26 @@ unfoldable pub lens_page : List ℕ
 lens_page = page_text lens lens_points
 
 -- the lens begins with this line: `000000000000000004000000040000000400000003`
-pub lens-head
+pub lens_head
     : frame_text 0 (head_numbers lens [])
     ≡ 48 ∷ 48 ∷ 48 ∷ 48 ∷ 48 ∷ 48 ∷ 48 ∷ 48 ∷ 48 ∷ 48 ∷ 48 ∷ 48 ∷ 48 ∷ 48 ∷ 48 ∷ 48 ∷ 48 ∷ 52 ∷ 48 ∷ 48 ∷ 48 ∷ 48 ∷
     48 ∷ 48 ∷ 48 ∷ 52 ∷ 48 ∷ 48 ∷ 48 ∷ 48 ∷ 48 ∷ 48 ∷ 48 ∷ 52 ∷ 48 ∷ 48 ∷ 48 ∷ 48 ∷ 48 ∷ 48 ∷ 48 ∷ 51 ∷ 10 ∷ []
 unfolding lens
-lens-head = refl
+lens_head = refl
 
 -- its vertex 2 is this line: `0100000002fffffffe`
-pub lens-vertex
+pub lens_vertex
     : frame_text 1 (pair_numbers lens.vertices 2)
     ≡ 48 ∷ 49 ∷ 48 ∷ 48 ∷ 48 ∷ 48 ∷ 48 ∷ 48 ∷ 48 ∷ 50 ∷ 102 ∷ 102 ∷ 102 ∷ 102 ∷ 102 ∷ 102 ∷ 102 ∷ 101 ∷ 10 ∷ []
 unfolding lens
-lens-vertex = refl
+lens_vertex = refl
 
 -- read again it gives the sheet and the points back
-pub lens-read
+pub lens_read
     : read_page lens_page lens.vertices lens.edges lens_points
     ≡ record { page = Page.Sheet (sheet_head lens []) 7; vertices = lens.vertices; edges = lens.edges; points = lens_points }
 unfolding lens lens_points lens_page page_text read_page judged_page line_end lowest tab
-lens-read = refl
+lens_read = refl
 
 -- a page of a head, a vertex, an edge and a point
 unfoldable pub short_page : List ℕ
@@ -165,7 +165,7 @@ unfoldable pub answer_lines : List (List ℕ)
 answer_lines = answer_text (Answer.Vertex 0) ∷ answer_text (Answer.Edge 2047) ∷ answer_text (Answer.Zone 10) ∷ answer_text (Answer.Refused 20 0) ∷ []
 
 -- `vertex 0`, `edge 2047`, `zone 10`, `refused 20 0`
-pub answer-lines
+pub answer_lines_lem
     : answer_lines
     ≡ (118 ∷ 101 ∷ 114 ∷ 116 ∷ 101 ∷ 120 ∷ 32 ∷ 48 ∷ 10 ∷ [])
     ∷ (101 ∷ 100 ∷ 103 ∷ 101 ∷ 32 ∷ 50 ∷ 48 ∷ 52 ∷ 55 ∷ 10 ∷ [])
@@ -173,4 +173,4 @@ pub answer-lines
     ∷ (114 ∷ 101 ∷ 102 ∷ 117 ∷ 115 ∷ 101 ∷ 100 ∷ 32 ∷ 50 ∷ 48 ∷ 32 ∷ 48 ∷ 10 ∷ [])
     ∷ []
 unfolding answer_lines answer_text decimal lowest
-answer-lines = refl
+answer_lines_lem = refl

@@ -26,7 +26,7 @@ module _ (page : List ℕ) (count : ℕ) (good : GoodPage page count) where
       tab_same _ _ (4 * head_edges page) (λ i h. ap (λ at. number_at page at (i % 4)) (sym (edge_line page (i / 4) (omega arith) (before (1 + head_vertices page + i / 4) (omega arith)))))
 
   -- the points begin past the edges
-  pub points-at
+  pub points_at_lem
       : tab (λ i. signed_of (number_at page (43 + 19 * head_vertices page + 35 * head_edges page + 19 * (i / 2)) (i % 2))) (2 * count) ≡ point_words page count
-  points-at =
+  points_at_lem =
       tab_same _ _ (2 * count) (λ i h. ap (λ at. signed_of (number_at page at (i % 2))) (sym (point_line page (i / 2) (before (1 + head_vertices page + head_edges page + i / 2) (omega arith)))))

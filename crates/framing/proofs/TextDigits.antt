@@ -11,7 +11,7 @@ use lib.ListN.{length, get_or, length-append, get_or-append}
 use lib.Seq.{get_or-append-add, get_or_at}
 use lib.Signed.{mag}
 use Rattle.io.specs.Digits.{last_digits, hex_digit_ascii}
-use Rattle.subdivision.specs.Formula.{isEqual, every_below, Means}
+use Rattle.subdivision.specs.Formula.{is_equal, every_below, Means}
 use Rattle.subdivision.specs.Limits.{origin}
 use Rattle.theory.proofs.Decide.{means}
 use Rattle.frames.specs.Digits.{highest_word, is_digit, digit_value, number, signed_of, word_of}
@@ -49,7 +49,7 @@ module _ {page : List ℕ} {at : ℕ} (a b : List ℕ) (has : Has page at (a ++ 
 
 -- a digit is read as its value
 pub glyph_value : (d : ℕ) → d < 16 → digit_value (hex_digit_ascii d) ≡ d
-glyph_value = means (every_below 16 (λ d. isEqual (digit_value (hex_digit_ascii d)) d)) refl
+glyph_value = means (every_below 16 (λ d. is_equal (digit_value (hex_digit_ascii d)) d)) refl
 
 -- a digit is written as a digit
 pub glyph_is_digit : (d : ℕ) → d < 16 → Means (is_digit (hex_digit_ascii d))

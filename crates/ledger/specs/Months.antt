@@ -5,7 +5,7 @@ use Rattle.std.specs.Float.{nan}
 use Rattle.std.specs.Float.Ieee.{lt}
 use Rattle.subdivision.specs.declared.Answer.{Answer}
 use Rattle.subdivision.specs.declared.Verdict.{Verdict}
-use Rattle.subdivision.specs.Formula.{Formula, isAtMost, isEqual, both}
+use Rattle.subdivision.specs.Formula.{Formula, is_at_most, is_equal, both}
 use Rattle.subdivision.specs.Limits.{max_examined}
 use Rattle.subdivision.specs.Lists.{put}
 use Rattle.subdivision.specs.Sheet.{Sheet, zone_count}
@@ -118,12 +118,12 @@ those test (suc k) = those test k ++ (elim (test k) [ true ↦ k ∷ [] | false 
 abbrev pub room_kept : Samples → List Float → Sheet → Lent → Formula
 room_kept t permits s lent =
     both
-    (both (isAtMost (sample_count t) max_samples) (both (isEqual (length t.points) (2 * sample_count t)) (isEqual (length t.values) (sample_count t))))
+    (both (is_at_most (sample_count t) max_samples) (both (is_equal (length t.points) (2 * sample_count t)) (is_equal (length t.values) (sample_count t))))
     (both
-    (both (isAtMost (sample_count t) (length lent.boundary)) (isAtMost (sample_count t) (length lent.off)))
+    (both (is_at_most (sample_count t) (length lent.boundary)) (is_at_most (sample_count t) (length lent.off)))
     (both
-    (isAtMost (2 * zone_count s) (length permits))
-    (both (isAtMost (3 * zone_count s) (length lent.results)) (isAtMost (zone_count s) (length lent.means)))))
+    (is_at_most (2 * zone_count s) (length permits))
+    (both (is_at_most (3 * zone_count s) (length lent.results)) (is_at_most (zone_count s) (length lent.means)))))
 
 -- ---- a month, by what is answered for each sample
 

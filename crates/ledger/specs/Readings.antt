@@ -3,13 +3,13 @@
 use Rattle.std.specs.Prelude.{Bool, true, false, List, ℕ, ◌+◌, ◌*◌, eqb, Float, get_or}
 use Rattle.std.specs.Float.{nan, binary64}
 use Rattle.std.specs.Float.Ieee.{lt, le, of_bits}
-use Rattle.subdivision.specs.Formula.{Formula, isEqual, both}
+use Rattle.subdivision.specs.Formula.{Formula, is_equal, both}
 use Rattle.ledger.specs.declared.Reading.{Reading}
 use Rattle.ledger.specs.declared.Permit.{Permit}
 
 -- a test as a formula: it is so exactly when the test passes
 abbrev pub passes : Bool → Formula
-passes b = isEqual (elim b [ true ↦ 1 | false ↦ 0 ]) 1
+passes b = is_equal (elim b [ true ↦ 1 | false ↦ 0 ]) 1
 
 -- 0 mg/L
 abbrev pub nothing : Float

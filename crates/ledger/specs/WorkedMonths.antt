@@ -44,12 +44,12 @@ unfoldable pub lent : Lent
 lent = lent_of (90 ∷ 91 ∷ 92 ∷ 93 ∷ 94 ∷ 95 ∷ 96 ∷ []) (80 ∷ 81 ∷ 82 ∷ 83 ∷ 84 ∷ 85 ∷ 86 ∷ []) (70 ∷ 71 ∷ 72 ∷ 73 ∷ 74 ∷ 75 ∷ 76 ∷ 77 ∷ 78 ∷ 79 ∷ []) (one_tenth ∷ one_tenth ∷ one_tenth ∷ one_tenth ∷ [])
 
 -- the month: two samples on boundaries, one off the sheet; zone 1 has three, one below detection, and is over by its last bit, which depends on the order
-pub worked-month
+pub worked_month
     : month_of lens lens_index samples permits lent
     ≡ left_of (Month.Judged 2 1) (1 ∷ 3 ∷ 92 ∷ 93 ∷ 94 ∷ 95 ∷ 96 ∷ []) (4 ∷ 81 ∷ 82 ∷ 83 ∷ 84 ∷ 85 ∷ 86 ∷ [])
     (0 ∷ 0 ∷ 0 ∷ 3 ∷ 1 ∷ 2 ∷ 0 ∷ 0 ∷ 0 ∷ 79 ∷ []) (one_tenth ∷ of_bits binary64 0x3fc9_9999_9999_999b ∷ one_tenth ∷ one_tenth ∷ [])
 unfolding samples permits lent lens lens_index month_by searched_at searching descent index_descent bits top_bit low_bit lca lowest in_range reading_of judge add div lt le of_int of_bits
-worked-month = refl
+worked_month = refl
 
 -- ---- the same month with one fault
 
@@ -66,7 +66,7 @@ with_value_at k value = record { points = samples.points; kinds = samples.kinds;
 
 -- each refusal in the order in which they are given: no zones, margins exchanged, an index one word short, a boundary list one word short, a permit of
 -- 0, a value of 0, not-a-number, an unknown kind, a word of the index that is no edge, a detection limit above the floor
-pub worked-refusals
+pub worked_refusals
     : says (sheet_of (pos 0) (pos 4) lens.vertices lens.edges 0) lens_index samples permits lent
     ∷ says (sheet_of (pos 4) (pos 0) lens.vertices lens.edges 3) lens_index samples permits lent
     ∷ says lens (take 13 lens_index) samples permits lent
@@ -81,4 +81,4 @@ pub worked-refusals
     ≡ Month.Refused 1 0 ∷ Month.Refused 2 0 ∷ Month.Refused 3 0 ∷ Month.Refused 43 0 ∷ Month.Refused 42 1 ∷ Month.Refused 40 3 ∷ Month.Refused 40 4 ∷ Month.Refused 40 5 ∷
     Month.Refused 22 0 ∷ Month.Refused 41 6 ∷ []
 unfolding samples permits lent lens lens_index month_by searched_at searching descent index_descent bits top_bit low_bit lca lowest in_range reading_of judge add div lt le of_int of_bits
-worked-refusals = refl
+worked_refusals = refl

@@ -1,6 +1,6 @@
 -- What each zone still waits for while the line of rule 7 is made.
 use Rattle.std.specs.Prelude.{Bool, true, false, List, [], ℕ, zero, suc, ◌-◌, min, eqb, pos, length, get_or}
-use Rattle.subdivision.specs.Formula.{Formula, isEqual, both, not_so, holds}
+use Rattle.subdivision.specs.Formula.{Formula, is_equal, both, not_so, holds}
 use Rattle.subdivision.specs.Lists.{tab}
 use Rattle.subdivision.specs.Sheet.{Sheet, sheet_of, edge_above, edge_below}
 use Rattle.subdivision.specs.ZoneLine.{is_in}
@@ -21,7 +21,7 @@ is_under edges z e = eqb (edge_above edges e) z
 
 -- edge e is under zone z, and its zone below is not placed
 abbrev pub holds_back : List ℕ → List ℕ → ℕ → ℕ → Formula
-holds_back edges placed z e = both (isEqual (edge_above edges e) z) (not_so (is_in (edge_below edges e) placed))
+holds_back edges placed z e = both (is_equal (edge_above edges e) z) (not_so (is_in (edge_below edges e) placed))
 
 -- the word of zone z: 0 where it is placed, otherwise 1 more than the edges of the order that hold it back
 unfoldable pub wait_of : List ℕ → List ℕ → List ℕ → ℕ → ℕ

@@ -1,11 +1,11 @@
 -- Marks for what the edges name: a flag for each vertex, or for each zone.
 use Rattle.std.specs.Prelude.{Bool, true, false, List, ℕ, ◌+◌, ◌*◌, length, get_or}
-use Rattle.subdivision.specs.Formula.{Formula, isEqual, someBelow, holds}
+use Rattle.subdivision.specs.Formula.{Formula, is_equal, some_below, holds}
 use Rattle.subdivision.specs.Lists.{tab}
 
 -- one of the first m edges has v as its word `at`: 0 the western vertex, 1 the eastern one, 2 the zone above, 3 the zone below
 abbrev pub named_at : List ℕ → ℕ → ℕ → ℕ → Formula
-named_at edges at m v = someBelow m (λ e. isEqual (get_or edges (4 * e + at) 0) v)
+named_at edges at m v = some_below m (λ e. is_equal (get_or edges (4 * e + at) 0) v)
 
 -- marks, with those set that the first m edges name
 unfoldable pub marked : List ℕ → ℕ → ℕ → List Bool → List Bool

@@ -12,7 +12,7 @@ use lib.Seq.{length-take-le}
 use Rattle.io.specs.Counts.{IsPrefixLen}
 use Rattle.subdivision.specs.declared.Verdict.{Verdict}
 use Rattle.subdivision.specs.Limits.{program_limits}
-use Rattle.subdivision.specs.Formula.{isAtMost, holds, Means}
+use Rattle.subdivision.specs.Formula.{is_at_most, holds, Means}
 use Rattle.subdivision.specs.Lists.{put}
 use Rattle.subdivision.specs.Layout.{index_need}
 use Rattle.subdivision.specs.Sheet.{Sheet, edge_count, zone_count}
@@ -92,7 +92,7 @@ module _ (page : List ℕ) where
 
   -- what is written is a part of the text
   pub printed_counts : (text : List ℕ) (count : ℕ) → (place_page page text).written ≡ Written.Text count → IsPrefixLen count (place_page page text).text
-  printed_counts text count e = ⊎_elim with_room (λ short. absurd (without short)) (decided (isAtMost max_text (length text)))
+  printed_counts text count e = ⊎_elim with_room (λ short. absurd (without short)) (decided (is_at_most max_text (length text)))
     where
       with_room : max_text ≤ length text → IsPrefixLen count (place_page page text).text
       with_room h =

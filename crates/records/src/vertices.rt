@@ -1,5 +1,5 @@
 ghost use Rattle.std.specs.Prelude.{◌≡◌, not, []};
-ghost use Rattle.subdivision.specs.Formula.{both, isAtMost, holds};
+ghost use Rattle.subdivision.specs.Formula.{both, is_at_most, holds};
 ghost use Rattle.subdivision.specs.Lowest.{lowest};
 ghost use Rattle.subdivision.specs.Sheet.{sheet_of};
 ghost use Rattle.subdivision.specs.Rules.{in_range, vertex_inside};
@@ -25,7 +25,7 @@ pub fn first_outside(west: i32, east: i32, vertices: &[i32], count: u32) -> u32
 
 // Whether a point is in range, and between the margins; all four numbers are shifted.
 pub fn point_inside(west: u32, east: u32, x: u32, y: u32) -> bool
-    ensures { result ≡ holds (both (both (in_range x) (in_range y)) (both (isAtMost west x) (isAtMost x east))) }
+    ensures { result ≡ holds (both (both (in_range x) (in_range y)) (both (is_at_most west x) (is_at_most x east))) }
 {
     if !in_range(x) {
         return false;
@@ -51,7 +51,7 @@ pub fn in_range(c: u32) -> bool
 
 // Whether a point is on the sheet: between the margins and y in range; all four numbers are shifted.
 pub fn on_sheet(west: u32, east: u32, x: u32, y: u32) -> bool
-    ensures { result ≡ holds (both (both (isAtMost west x) (isAtMost x east)) (in_range y)) }
+    ensures { result ≡ holds (both (both (is_at_most west x) (is_at_most x east)) (in_range y)) }
 {
     if x < west {
         return false;

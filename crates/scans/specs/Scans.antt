@@ -3,7 +3,7 @@ use Rattle.std.specs.Prelude.{true, false, List, [], ℕ, zero, suc, ◌/◌, lt
 use Rattle.subdivision.specs.declared.Answer.{Answer}
 use Rattle.subdivision.specs.declared.Answer.TheVariants.{Vertex, Edge, Zone}
 use Rattle.subdivision.specs.declared.Segment.{Segment}
-use Rattle.subdivision.specs.Formula.{Formula, isEqual, both, either, holds}
+use Rattle.subdivision.specs.Formula.{Formula, is_equal, both, either, holds}
 use Rattle.subdivision.specs.Lowest.{lowest}
 use Rattle.subdivision.specs.Sheet.{sheet_of, edge_above, segment_of}
 use Rattle.subdivision.specs.Lines.{covers, is_above, is_on}
@@ -31,7 +31,7 @@ module _ (vertices : List ℤ) (edges : List ℕ) (x y : ℕ) where
     -- edge e takes the place of the highest so far: it is beneath the point, and none was found before, or it is higher than that
     abbrev pub takes_over : ℕ → ℕ → ℕ → Formula
     takes_over none best e =
-        both (is_beneath e) (either (isEqual best none) (lower_between (segment_of vertices edges best) (segment_of vertices edges e)))
+        both (is_beneath e) (either (is_equal best none) (lower_between (segment_of vertices edges best) (segment_of vertices edges e)))
 
     -- of the first so many edges, the highest beneath the point; a number given for none where there is none
     abbrev pub highest_to : ℕ → ℕ → ℕ

@@ -7,7 +7,7 @@ use Rattle.subdivision.specs.declared.Look.TheVariants.{Faulty, West, Covering, 
 use Rattle.subdivision.specs.declared.Probed.{Probed}
 use Rattle.subdivision.specs.declared.Probed.TheVariants.{Covered, Missing}
 use Rattle.subdivision.specs.declared.Side.TheVariants.{Below, On, Above}
-use Rattle.subdivision.specs.Formula.{Formula, is_less, isAtMost, both, not_so, holds}
+use Rattle.subdivision.specs.Formula.{Formula, is_less, is_at_most, both, not_so, holds}
 use Rattle.subdivision.specs.Dyadic.{top_bit, left_son, right_son}
 use Rattle.subdivision.specs.Sheet.{Sheet, east_margin, edge_count, zone_count, west_of, east_of, above_of, below_of, segment}
 use Rattle.subdivision.specs.Lines.{covers, side_at}
@@ -62,13 +62,13 @@ module _ (s : Sheet) (w : LookUps) where
   -- refusal 22: the start of a chain to be examined and the next start are at most m, and not the wrong way round
   abbrev pub starts_sound : ℕ → Formula
   starts_sound k =
-      both (both (isAtMost (w.start k) (edge_count s)) (isAtMost (w.start (k + 1)) (edge_count s))) (isAtMost (w.start k) (w.start (k + 1)))
+      both (both (is_at_most (w.start k) (edge_count s)) (is_at_most (w.start (k + 1)) (edge_count s))) (is_at_most (w.start k) (w.start (k + 1)))
 
   -- refusal 22: both places of an examined edge are below n, and place below < k <= place above
   abbrev pub places_sound : ℕ → ℕ → Formula
   places_sound k e =
       both (both (is_less (w.place (below_of s e)) (zone_count s)) (is_less (w.place (above_of s e)) (zone_count s)))
-      (both (is_less (w.place (below_of s e)) k) (isAtMost k (w.place (above_of s e))))
+      (both (is_less (w.place (below_of s e)) k) (is_at_most k (w.place (above_of s e))))
 
   module _ (x : ℕ) where
     -- one look at entry e: x < western x, x beyond the covered part, or otherwise that edge covers
@@ -122,7 +122,7 @@ past d e probes i j = record { i = i; j = j; k = d.k; trail = d.trail ++ (e ∷ 
 
 -- a step that may not make i > j
 abbrev pub stepped : LookUps → Descent → Turn
-stepped w d = elim (breaks w (isAtMost d.i d.j)) [ true ↦ damaged | false ↦ onward d ]
+stepped w d = elim (breaks w (is_at_most d.i d.j)) [ true ↦ damaged | false ↦ onward d ]
 
 module _ (s : Sheet) (w : LookUps) (x y : ℕ) where
   -- edge e of chain k is examined, with so many probes so far: above it i becomes the place of its zone above, below it j that of its zone below

@@ -4,10 +4,10 @@ use Rattle.std.specs.Prelude.{◌≡◌, Bool, true, false, not, ◌⊎◌, ℕ,
 
 -- a formula: an order or equality of two numbers, or one made of others, with all or some of the numbers below a count
 pub data Formula : Type 0 where
-  is_less isAtMost isEqual : ℕ → ℕ → Formula
+  is_less is_at_most is_equal : ℕ → ℕ → Formula
   both either implies : Formula → Formula → Formula
   not_so : Formula → Formula
-  every_below someBelow : ℕ → (ℕ → Formula) → Formula
+  every_below some_below : ℕ → (ℕ → Formula) → Formula
 
 -- the test passes at every number below the count
 abbrev pub every_under : ℕ → (ℕ → Bool) → Bool
@@ -22,23 +22,23 @@ some_under (suc n) test = elim (test n) [ true ↦ true | false ↦ some_under n
 -- the formula, computed
 abbrev pub holds : Formula → Bool
 holds (is_less a b) = ltb a b
-holds (isAtMost a b) = leb a b
-holds (isEqual a b) = eqb a b
+holds (is_at_most a b) = leb a b
+holds (is_equal a b) = eqb a b
 holds (both p q) = elim (holds p) [ true ↦ holds q | false ↦ false ]
 holds (either p q) = elim (holds p) [ true ↦ true | false ↦ holds q ]
 holds (implies p q) = elim (holds p) [ true ↦ holds q | false ↦ true ]
 holds (not_so p) = not (holds p)
 holds (every_below n p) = every_under n (λ k. holds (p k))
-holds (someBelow n p) = some_under n (λ k. holds (p k))
+holds (some_below n p) = some_under n (λ k. holds (p k))
 
 -- the statement that the formula makes
 abbrev pub Means : Formula → Type 0
 Means (is_less a b) = a < b
-Means (isAtMost a b) = a ≤ b
-Means (isEqual a b) = a ≡ b
+Means (is_at_most a b) = a ≤ b
+Means (is_equal a b) = a ≡ b
 Means (both p q) = Means p × Means q
 Means (either p q) = Means p ⊎ Means q
 Means (implies p q) = Means p → Means q
 Means (not_so p) = Means p → ⊥
 Means (every_below n p) = (k : ℕ) → k < n → Means (p k)
-Means (someBelow n p) = (k : ℕ) × (k < n) × Means (p k)
+Means (some_below n p) = (k : ℕ) × (k < n) × Means (p k)

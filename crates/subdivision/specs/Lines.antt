@@ -3,15 +3,15 @@ use Rattle.std.specs.Prelude.{true, false, ℕ, ◌+◌, ◌*◌, ◌-◌, min, 
 use Rattle.subdivision.specs.declared.Segment.{Segment}
 use Rattle.subdivision.specs.declared.Side.{Side}
 use Rattle.subdivision.specs.declared.Side.TheVariants.{Below, On, Above}
-use Rattle.subdivision.specs.Formula.{Formula, is_less, isAtMost, isEqual, both, either, not_so}
+use Rattle.subdivision.specs.Formula.{Formula, is_less, is_at_most, is_equal, both, either, not_so}
 
 -- an edge covers abscissa x when its western x <= x < its eastern x, and for x = E when its eastern x = E
 abbrev pub covers : ℕ → Segment → ℕ → Formula
-covers margin g x = either (both (isAtMost g.xw x) (is_less x g.xe)) (both (isEqual x margin) (isEqual g.xe margin))
+covers margin g x = either (both (is_at_most g.xw x) (is_less x g.xe)) (both (is_equal x margin) (is_equal g.xe margin))
 
 -- the western reading's cover: western x < x <= eastern x
 abbrev pub covers_west : Segment → ℕ → Formula
-covers_west g x = both (is_less g.xw x) (isAtMost x g.xe)
+covers_west g x = both (is_less g.xw x) (is_at_most x g.xe)
 
 -- the width xe - xw of an edge
 abbrev pub width : Segment → ℕ
@@ -35,7 +35,7 @@ is_below g x y = is_less (point_part g y) (edge_part g x)
 
 -- the point (x, y) lies on an edge, its ends included
 abbrev pub is_on : Segment → ℕ → ℕ → Formula
-is_on g x y = both (both (isAtMost g.xw x) (isAtMost x g.xe)) (isEqual (point_part g y) (edge_part g x))
+is_on g x y = both (both (is_at_most g.xw x) (is_at_most x g.xe)) (is_equal (point_part g y) (edge_part g x))
 
 -- a number against another, as a side
 abbrev pub side_of : ℕ → ℕ → Side
@@ -55,7 +55,7 @@ lower c g h = is_less (height c g * width h) (height c h * width g)
 
 -- g and h are equally high on the doubled line c
 abbrev pub level : ℕ → Segment → Segment → Formula
-level c g h = isEqual (height c g * width h) (height c h * width g)
+level c g h = is_equal (height c g * width h) (height c h * width g)
 
 -- a of rule 4: the larger western x of two edges
 abbrev pub overlap_west : Segment → Segment → ℕ
@@ -74,8 +74,8 @@ abbrev pub conflict_on : ℕ → ℕ → Segment → Segment → Formula
 conflict_on a b g h =
     either (opposite (2 * a) (2 * b) g h)
     (either (both (level (2 * a) g h) (level (2 * b) g h))
-    (either (both (level (2 * a) g h) (not_so (isEqual g.west h.west)))
-    (both (level (2 * b) g h) (not_so (isEqual g.east h.east)))))
+    (either (both (level (2 * a) g h) (not_so (is_equal g.west h.west)))
+    (both (level (2 * b) g h) (not_so (is_equal g.east h.east)))))
 
 -- rule 4 broken by two edges: they overlap, a < b, and the overlap breaks it
 abbrev pub conflict : Segment → Segment → Formula

@@ -2,7 +2,7 @@
 use Rattle.std.specs.Prelude.{true, false, ℕ, ◌+◌, ◌*◌, ◌-◌, ltb, get_or}
 use Rattle.subdivision.specs.declared.Answer.{Answer}
 use Rattle.subdivision.specs.declared.Answer.TheVariants.{Vertex, Edge, Zone}
-use Rattle.subdivision.specs.Formula.{Formula, isAtMost, isEqual, both, holds}
+use Rattle.subdivision.specs.Formula.{Formula, is_at_most, is_equal, both, holds}
 use Rattle.subdivision.specs.Lowest.{lowest}
 use Rattle.subdivision.specs.Sheet.{Sheet, west_margin, east_margin, vertex_count, edge_count, zone_count, x_of, y_of, above_of, below_of, segment}
 use Rattle.subdivision.specs.Lines.{covers, covers_west, is_above, is_below, is_on}
@@ -14,7 +14,7 @@ use Rattle.subdivision.specs.ZoneLine.{zone_line}
 module _ (s : Sheet) where
   -- the point is on the sheet, under limits: W <= x <= E and y in range
   abbrev pub on_sheet_under : Limits → ℕ → ℕ → Formula
-  on_sheet_under l x y = both (both (isAtMost (west_margin s) x) (isAtMost x (east_margin s))) (in_range_under l y)
+  on_sheet_under l x y = both (both (is_at_most (west_margin s) x) (is_at_most x (east_margin s))) (in_range_under l y)
 
   -- the point is on the sheet: W <= x <= E and y in range; refusal 20 is given exactly when it is not
   abbrev pub on_sheet : ℕ → ℕ → Formula
@@ -34,7 +34,7 @@ module _ (s : Sheet) where
 
   -- vertex v is the point
   abbrev pub is_vertex : ℕ → ℕ → ℕ → Formula
-  is_vertex x y v = both (isEqual (x_of s v) x) (isEqual (y_of s v) y)
+  is_vertex x y v = both (is_equal (x_of s v) x) (is_equal (y_of s v) y)
 
   -- edge e covers x and is strictly below the point
   abbrev pub beneath : ℕ → ℕ → ℕ → Formula

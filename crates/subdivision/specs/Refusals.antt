@@ -3,7 +3,7 @@ use Rattle.std.specs.Prelude.{true, false, not, List, [], ◌∷◌, ℕ, ◌-�
 use Rattle.subdivision.specs.declared.Verdict.{Verdict}
 use Rattle.subdivision.specs.declared.Verdict.TheVariants.{Passed, Refused}
 use Rattle.subdivision.specs.Limits.{Limits, limits}
-use Rattle.subdivision.specs.Formula.{Formula, is_less, isAtMost, isEqual, both, not_so, every_below, holds}
+use Rattle.subdivision.specs.Formula.{Formula, is_less, is_at_most, is_equal, both, not_so, every_below, holds}
 use Rattle.subdivision.specs.Lowest.{lowest}
 use Rattle.subdivision.specs.Dyadic.{bits}
 use Rattle.subdivision.specs.Layout.{index_need}
@@ -38,7 +38,7 @@ judged (r ∷ rs) = elim (holds r.kept) [ true ↦ judged rs | false ↦ Refused
 -- so many vertices, edges and zones are within limits
 abbrev pub counts_within_under : Limits → ℕ → ℕ → ℕ → Formula
 counts_within_under l vertices edges zones =
-    both (both (isAtMost vertices l.vertices) (isAtMost edges l.edges)) (both (isAtMost 1 zones) (isAtMost zones l.zones))
+    both (both (is_at_most vertices l.vertices) (is_at_most edges l.edges)) (both (is_at_most 1 zones) (is_at_most zones l.zones))
 
 -- so many vertices, edges and zones are within their limits
 abbrev pub counts_within : ℕ → ℕ → ℕ → Formula
@@ -48,7 +48,7 @@ module _ (l : Limits) (s : Sheet) where
   -- refusal 1, under limits: the tables are whole records, and no count is beyond its limit
   abbrev pub counts_kept_under : Formula
   counts_kept_under =
-      both (both (isEqual (length s.vertices % 2) 0) (isEqual (length s.edges % 4) 0))
+      both (both (is_equal (length s.vertices % 2) 0) (is_equal (length s.edges % 4) 0))
       (counts_within_under l (vertex_count s) (edge_count s) (zone_count s))
 
   -- refusal 2, under limits: both margins are in range, and W < E
@@ -74,11 +74,11 @@ module _ (s : Sheet) where
 
   -- refusal 3: the index has room
   abbrev pub room_refusal : ℕ → Refusal
-  room_refusal words = unnamed 3 (isAtMost (index_need (zone_count s) (edge_count s)) words)
+  room_refusal words = unnamed 3 (is_at_most (index_need (zone_count s) (edge_count s)) words)
 
   -- refusal 21: the trail has room for bits(n-1) edges
   abbrev pub trail_room : ℕ → Formula
-  trail_room places = isAtMost (bits (zone_count s - 1)) places
+  trail_room places = is_at_most (bits (zone_count s - 1)) places
 
   -- refusal 13: rule 7 can't be kept; names the lowest zone that is itself on a circle (document 02, P4)
   abbrev pub circle_refusal : Refusal

@@ -1,14 +1,14 @@
 -- Rules 1 to 6 of document 01, "Rules of an accepted sheet", each clause by the item that a refusal charges it to.
 use Rattle.std.specs.Prelude.{ℕ, ◌+◌, ◌*◌, ◌-◌}
 use Rattle.subdivision.specs.Limits.{Limits, limits, lowest_under, highest_under}
-use Rattle.subdivision.specs.Formula.{Formula, is_less, isAtMost, isEqual, both, either, implies, not_so, every_below, someBelow}
+use Rattle.subdivision.specs.Formula.{Formula, is_less, is_at_most, is_equal, both, either, implies, not_so, every_below, some_below}
 use Rattle.subdivision.specs.Sheet.{Sheet, west_margin, east_margin, vertex_count, edge_count, zone_count, x_of, y_of, west_of, east_of, above_of, below_of, segment}
 use Rattle.subdivision.specs.Lines.{conflict}
 use Rattle.subdivision.specs.Neighbours.{is_highest, is_lowest, is_next_up}
 
 -- a shifted coordinate is in range, under limits
 abbrev pub in_range_under : Limits → ℕ → Formula
-in_range_under l c = both (isAtMost (lowest_under l) c) (isAtMost c (highest_under l))
+in_range_under l c = both (is_at_most (lowest_under l) c) (is_at_most c (highest_under l))
 
 -- a shifted coordinate is in range
 abbrev pub in_range : ℕ → Formula
@@ -18,7 +18,7 @@ in_range c = in_range_under limits c
 abbrev pub vertex_inside_under : Limits → Sheet → ℕ → Formula
 vertex_inside_under l s v =
     both (both (in_range_under l (x_of s v)) (in_range_under l (y_of s v)))
-    (both (isAtMost (west_margin s) (x_of s v)) (isAtMost (x_of s v) (east_margin s)))
+    (both (is_at_most (west_margin s) (x_of s v)) (is_at_most (x_of s v) (east_margin s)))
 
 module _ (s : Sheet) where
   -- rule 1: vertex v is in range and W <= x <= E
@@ -27,7 +27,7 @@ module _ (s : Sheet) where
 
   -- rule 1: vertex v is the same point as no earlier one
   abbrev pub vertex_new : ℕ → Formula
-  vertex_new v = every_below v (λ u. not_so (both (isEqual (x_of s u) (x_of s v)) (isEqual (y_of s u) (y_of s v))))
+  vertex_new v = every_below v (λ u. not_so (both (is_equal (x_of s u) (x_of s v)) (is_equal (y_of s u) (y_of s v))))
 
   -- rule 2: edge e names vertices and zones that exist
   abbrev pub edge_names : ℕ → Formula
@@ -41,29 +41,29 @@ module _ (s : Sheet) where
 
   -- rule 2: edge e has different zones above and below
   abbrev pub zones_differ : ℕ → Formula
-  zones_differ e = not_so (isEqual (above_of s e) (below_of s e))
+  zones_differ e = not_so (is_equal (above_of s e) (below_of s e))
 
   -- edge e is a western edge of vertex v: it ends there
   abbrev pub western_edge : ℕ → ℕ → Formula
-  western_edge v e = isEqual (east_of s e) v
+  western_edge v e = is_equal (east_of s e) v
 
   -- edge e is an eastern edge of vertex v: it starts there
   abbrev pub eastern_edge : ℕ → ℕ → Formula
-  eastern_edge v e = isEqual (west_of s e) v
+  eastern_edge v e = is_equal (west_of s e) v
 
   -- vertex v has an edge on its west
   abbrev pub has_western : ℕ → Formula
-  has_western v = someBelow (edge_count s) (western_edge v)
+  has_western v = some_below (edge_count s) (western_edge v)
 
   -- vertex v has an edge on its east
   abbrev pub has_eastern : ℕ → Formula
-  has_eastern v = someBelow (edge_count s) (eastern_edge v)
+  has_eastern v = some_below (edge_count s) (eastern_edge v)
 
   -- rule 3: with W < x < E an edge on its west and one on its east; at W an eastern edge, at E a western one
   abbrev pub vertex_regular : ℕ → Formula
   vertex_regular v =
       both (implies (both (is_less (west_margin s) (x_of s v)) (is_less (x_of s v) (east_margin s))) (both (has_western v) (has_eastern v)))
-      (both (implies (isEqual (x_of s v) (west_margin s)) (has_eastern v)) (implies (isEqual (x_of s v) (east_margin s)) (has_western v)))
+      (both (implies (is_equal (x_of s v) (west_margin s)) (has_eastern v)) (implies (is_equal (x_of s v) (east_margin s)) (has_western v)))
 
   -- rule 4: edge e is in conflict with no lower-numbered edge
   abbrev pub edge_clear : ℕ → Formula
@@ -80,7 +80,7 @@ module _ (s : Sheet) where
   -- from bottom to top on a line, each edge's zone above is the next one's zone below
   abbrev pub fan_agrees : ℕ → (ℕ → Formula) → Formula
   fan_agrees c among =
-      every_below (edge_count s) (λ e. every_below (edge_count s) (λ f. implies (is_next_up s c among e f) (isEqual (above_of s e) (below_of s f))))
+      every_below (edge_count s) (λ e. every_below (edge_count s) (λ f. implies (is_next_up s c among e f) (is_equal (above_of s e) (below_of s f))))
 
   -- rule 5, the western fan of vertex v
   abbrev pub western_names : ℕ → Formula
@@ -94,22 +94,22 @@ module _ (s : Sheet) where
   abbrev pub tops_and_bottoms : ℕ → Formula
   tops_and_bottoms v =
       every_below (edge_count s) (λ e. every_below (edge_count s) (λ f.
-      both (implies (both (is_highest s (line_west_of v) (western_edge v) e) (is_highest s (line_east_of v) (eastern_edge v) f)) (isEqual (above_of s e) (above_of s f)))
-      (implies (both (is_lowest s (line_west_of v) (western_edge v) e) (is_lowest s (line_east_of v) (eastern_edge v) f)) (isEqual (below_of s e) (below_of s f)))))
+      both (implies (both (is_highest s (line_west_of v) (western_edge v) e) (is_highest s (line_east_of v) (eastern_edge v) f)) (is_equal (above_of s e) (above_of s f)))
+      (implies (both (is_lowest s (line_west_of v) (western_edge v) e) (is_lowest s (line_east_of v) (eastern_edge v) f)) (is_equal (below_of s e) (below_of s f)))))
 
   -- vertices v and u are at W, and u is the next one up the margin from v
   abbrev pub next_on_margin : ℕ → ℕ → Formula
   next_on_margin v u =
-      both (both (isEqual (x_of s v) (west_margin s)) (isEqual (x_of s u) (west_margin s)))
+      both (both (is_equal (x_of s v) (west_margin s)) (is_equal (x_of s u) (west_margin s)))
       (both (is_less (y_of s v) (y_of s u))
-      (every_below (vertex_count s) (λ t. implies (both (isEqual (x_of s t) (west_margin s)) (is_less (y_of s v) (y_of s t))) (isAtMost (y_of s u) (y_of s t)))))
+      (every_below (vertex_count s) (λ t. implies (both (is_equal (x_of s t) (west_margin s)) (is_less (y_of s v) (y_of s t))) (is_at_most (y_of s u) (y_of s t)))))
 
   -- rule 5, the margin: at W, the zone above the top eastern edge of vertex v is the zone below the bottom eastern edge of the next vertex up
   abbrev pub margin_names : ℕ → Formula
   margin_names v =
       every_below (vertex_count s) (λ u. implies (next_on_margin v u)
       (every_below (edge_count s) (λ e. every_below (edge_count s) (λ f.
-      implies (both (is_highest s (line_east_of v) (eastern_edge v) e) (is_lowest s (line_east_of u) (eastern_edge u) f)) (isEqual (above_of s e) (below_of s f))))))
+      implies (both (is_highest s (line_east_of v) (eastern_edge v) e) (is_lowest s (line_east_of u) (eastern_edge u) f)) (is_equal (above_of s e) (below_of s f))))))
 
   -- rule 5 at vertex v, its four clauses
   abbrev pub names_agree : ℕ → Formula
@@ -117,12 +117,12 @@ module _ (s : Sheet) where
 
   -- the sheet excepted in rule 6: n = 1, V = 0, m = 0
   abbrev pub empty_sheet : Formula
-  empty_sheet = both (isEqual (zone_count s) 1) (both (isEqual (vertex_count s) 0) (isEqual (edge_count s) 0))
+  empty_sheet = both (is_equal (zone_count s) 1) (both (is_equal (vertex_count s) 0) (is_equal (edge_count s) 0))
 
   -- rule 6: zone z is named by some edge, but on the sheet excepted
   abbrev pub zone_named : ℕ → Formula
   zone_named z =
-      either (someBelow (edge_count s) (λ e. either (isEqual (above_of s e) z) (isEqual (below_of s e) z))) empty_sheet
+      either (some_below (edge_count s) (λ e. either (is_equal (above_of s e) z) (is_equal (below_of s e) z))) empty_sheet
 
   -- rule 1: every vertex is in range and W <= x <= E; no two are the same point
   abbrev pub rule1 : Formula

@@ -44,7 +44,7 @@ four_readings s x y =
     zone_beneath s (shifted x) (shifted y) ∷ zone_overhead s (shifted x) (shifted y) ∷ zone_beneath_west s (shifted x) (shifted y) ∷ zone_overhead_west s (shifted x) (shifted y) ∷ []
 
 -- the slips, whatever words w were lent
-pub slips-told-apart :
+pub slips_told_apart :
     (w : ℕ → ℕ) →
     -- the terraces are accepted, with their index
     (opening terraces (tab w 22) ≡ record { verdict = Passed; index = terrace_index })
@@ -63,4 +63,4 @@ pub slips-told-apart :
     × (reading scattered (pos 1) (pos 5) ≡ Answer.Refused 11 0)
     × (four_readings scattered (pos 1) (pos 5) ≡ 2 ∷ 3 ∷ 4 ∷ 5 ∷ [])
 unfolding terraces terrace_index hidden_name scattered flat_edge four_readings opening reading searching descent index_descent place_of zone_at chain_of eastward chain start_of index_words first_zone last_zone zone_beneath zone_overhead zone_beneath_west zone_overhead_west plain_reading next_zone zone_line in_order bits top_bit low_bit lca lowest tab
-slips-told-apart w = (refl, refl, refl, refl, refl, refl, refl, refl, refl)
+slips_told_apart w = (refl, refl, refl, refl, refl, refl, refl, refl, refl)

@@ -20,7 +20,7 @@ beneath_two =
     record { west = pos 0; east = pos 4; vertices = pos 0 ∷ pos 0 ∷ pos 2 ∷ pos 0 ∷ pos 4 ∷ pos 0 ∷ pos 1 ∷ pos 1 ∷ pos 1 ∷ negsuc 0 ∷ pos 3 ∷ pos 1 ∷ pos 3 ∷ negsuc 0 ∷ pos 0 ∷ negsuc 4 ∷ pos 4 ∷ negsuc 4 ∷ pos 0 ∷ negsuc 3 ∷ pos 4 ∷ negsuc 3 ∷ pos 0 ∷ negsuc 2 ∷ pos 4 ∷ negsuc 2 ∷ []; edges = 0 ∷ 3 ∷ 2 ∷ 6 ∷ 3 ∷ 1 ∷ 2 ∷ 6 ∷ 0 ∷ 4 ∷ 5 ∷ 4 ∷ 4 ∷ 1 ∷ 5 ∷ 4 ∷ 0 ∷ 1 ∷ 6 ∷ 5 ∷ 1 ∷ 5 ∷ 2 ∷ 5 ∷ 5 ∷ 2 ∷ 2 ∷ 5 ∷ 1 ∷ 6 ∷ 6 ∷ 4 ∷ 6 ∷ 2 ∷ 6 ∷ 4 ∷ 1 ∷ 2 ∷ 5 ∷ 6 ∷ 7 ∷ 8 ∷ 1 ∷ 0 ∷ 9 ∷ 10 ∷ 3 ∷ 1 ∷ 11 ∷ 12 ∷ 4 ∷ 3 ∷ []; zones = 7 }
 
 -- the cases, whatever words w were lent
-pub worked-circles :
+pub worked_circles :
     (w : ℕ → ℕ) →
     -- of the circle case of document 01, which still names zone 1 (`worked-refusals`), zones 1 and 2 are on the circle
     (tab (λ z. holds (on_circle (two_lenses 1 2) z)) 4 ≡ false ∷ true ∷ true ∷ false ∷ [])
@@ -33,4 +33,4 @@ pub worked-circles :
     × (judged (earlier_table_refusals beneath_two) ≡ Refused 13 2)
     × (names (earlier_circle_refusal (two_lenses 1 2)) ≡ 1)
 unfolding two_lenses beneath_two opening next_zone zone_line in_order bits top_bit low_bit lca lowest tab
-worked-circles w = (refl, refl, refl, refl, refl, refl)
+worked_circles w = (refl, refl, refl, refl, refl, refl)

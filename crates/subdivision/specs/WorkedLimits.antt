@@ -29,7 +29,7 @@ unfoldable pub side_at32 : Segment → ℕ → ℕ → Side
 side_at32 g x y = side_of (point_part g y % 4294967296) (edge_part g x % 4294967296)
 
 -- the nearest misses of that edge
-pub worked-misses :
+pub worked_misses :
     -- (999,999,998, 999,999,997) is below it by one unit of the test's number, less than doubles tell apart at this size
     (side_at long_edge 3147483646 3147483645 ≡ Below)
     × (edge_part long_edge 3147483646 ≡ suc (point_part long_edge 3147483645))
@@ -41,10 +41,10 @@ pub worked-misses :
     × (side_at long_edge 2147483648 2147483646 ≡ Below)
     × (side_at32 long_edge 2147483648 2147483646 ≡ Above)
 unfolding long_edge side_at32
-worked-misses = (refl, refl, refl, refl, refl, refl, refl)
+worked_misses = (refl, refl, refl, refl, refl, refl, refl)
 
 -- the cases, whatever words w were lent
-pub worked-limits :
+pub worked_limits :
     (w : ℕ → ℕ) →
     -- 4,096 vertices, 8,192 edges and 4,096 zones stand; one more of each gives 1, and so does no zone
     (holds (counts_within 4096 8192 4096) ≡ true)
@@ -78,4 +78,4 @@ pub worked-limits :
     × (reading (wide_lens 4 4) (pos 2) (pos 1000000000) ≡ Answer.Zone 2)
     × (reading (wide_lens 4 4) (pos 2) (pos 1000000001) ≡ Answer.Refused 20 0)
 unfolding wide_lens blank opening reading searching place_of zone_at chain_of eastward chain start_of index_words first_zone last_zone zone_beneath plain_reading next_zone zone_line in_order bits top_bit low_bit lca lowest tab
-worked-limits w = (refl, refl, refl, refl, refl, refl, refl, refl, refl, refl, refl, refl, refl, refl, refl, refl, refl, refl, refl, refl, refl, refl, refl, refl, refl)
+worked_limits w = (refl, refl, refl, refl, refl, refl, refl, refl, refl, refl, refl, refl, refl, refl, refl, refl, refl, refl, refl, refl, refl, refl, refl, refl, refl)

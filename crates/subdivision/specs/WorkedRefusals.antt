@@ -42,7 +42,7 @@ unfoldable pub verdict_on : Sheet → (ℕ → ℕ) → ℕ → Verdict
 verdict_on s w words = (opening s (tab w words)).verdict
 
 -- the cases, whatever words w were lent
-pub worked-refusals :
+pub worked_refusals :
     (w : ℕ → ℕ) →
     -- the circle: refused 13, zone 1; with the right lens as the left it is accepted
     (opening (two_lenses 1 2) (tab w 23) ≡ record { verdict = Refused 13 1; index = tab w 23 })
@@ -67,4 +67,4 @@ pub worked-refusals :
     × (holds (western_names wedge 0) ≡ false)
     × (lowest (λ v. not (holds (other_clauses v))) 3 ≡ 2)
 unfolding two_lenses wide_lens blank wedge other_clauses verdict_on opening place_of zone_at chain_of eastward chain start_of index_words next_zone zone_line in_order bits top_bit low_bit lca lowest tab
-worked-refusals w = (refl, refl, refl, refl, refl, refl, refl, refl, refl, refl, refl, refl, refl, refl, refl)
+worked_refusals w = (refl, refl, refl, refl, refl, refl, refl, refl, refl, refl, refl, refl, refl, refl, refl)

@@ -65,10 +65,10 @@ unfoldable pub expected : List ℕ → Case → Row
 expected lent c = record { plain = c.answer; published = searched lent c; quick = searched lent c }
 
 -- the worked table, whatever words w were lent: the lens index from the raw tables, the seven points, the three lca values
-pub worked-table :
+pub worked_table :
     (w : ℕ → ℕ) →
     (opening lens (tab w 14) ≡ record { verdict = Passed; index = lens_index })
     × (map (computed (tab w 2)) lens_cases ≡ map (expected (tab w 2)) lens_cases)
     × (lca 0 11 ∷ lca 7 9 ∷ lca 9 10 ∷ [] ≡ 8 ∷ 8 ∷ 10 ∷ [])
 unfolding lens lens_index lens_cases computed searched expected opening reading searching descent published_descent index_descent place_of zone_at chain_of eastward chain start_of entry_at index_words first_zone zone_beneath plain_reading next_zone zone_line in_order bits top_bit low_bit lca lowest tab
-worked-table w = (refl, refl, refl)
+worked_table w = (refl, refl, refl)

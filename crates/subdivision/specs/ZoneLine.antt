@@ -1,6 +1,6 @@
 -- Rule 7 of document 01: the line of zones; and the circles that refusal 13 speaks of, as document 02's P4 has it.
 use Rattle.std.specs.Prelude.{◌≡◌, true, false, List, [], ◌∷◌, ◌++◌, ℕ, zero, suc, ◌<◌, ltb, eqb, length}
-use Rattle.subdivision.specs.Formula.{Formula, is_less, isEqual, both, either, implies, not_so, every_below, someBelow, holds, Means}
+use Rattle.subdivision.specs.Formula.{Formula, is_less, is_equal, both, either, implies, not_so, every_below, some_below, holds, Means}
 use Rattle.subdivision.specs.Lowest.{lowest}
 use Rattle.subdivision.specs.Sheet.{Sheet, edge_count, zone_count, above_of, below_of}
 
@@ -28,7 +28,7 @@ module _ (s : Sheet) where
   abbrev pub is_ready : List ℕ → ℕ → Formula
   is_ready placed z =
       both (not_so (is_in z placed))
-      (every_below (edge_count s) (λ e. implies (isEqual (above_of s e) z) (is_in (below_of s e) placed)))
+      (every_below (edge_count s) (λ e. implies (is_equal (above_of s e) z) (is_in (below_of s e) placed)))
 
   -- the lowest-numbered zone that is ready; n where none is
   unfoldable pub next_zone : List ℕ → ℕ
@@ -49,13 +49,13 @@ module _ (s : Sheet) where
 
   -- rule 7, computed: the line used has every place filled
   abbrev pub rule7 : Formula
-  rule7 = isEqual (length zone_line) (zone_count s)
+  rule7 = is_equal (length zone_line) (zone_count s)
 
   -- steps from below to above lead from zone a to zone b, at most so many
   abbrev pub leads : ℕ → ℕ → ℕ → Formula
-  leads zero a b = isEqual a b
+  leads zero a b = is_equal a b
   leads (suc steps) a b =
-      either (isEqual a b) (someBelow (edge_count s) (λ e. both (isEqual (below_of s e) a) (leads steps (above_of s e) b)))
+      either (is_equal a b) (some_below (edge_count s) (λ e. both (is_equal (below_of s e) a) (leads steps (above_of s e) b)))
 
   -- zone c is on a circle: steps from below to above lead from it back to it, one and any number more (document 02, P4)
   abbrev pub OnCircle : ℕ → Type 0
@@ -63,8 +63,8 @@ module _ (s : Sheet) where
 
   -- the same, computed: one step and at most n more
   abbrev pub on_circle : ℕ → Formula
-  on_circle c = someBelow (edge_count s) (λ e. both (isEqual (below_of s e) c) (leads (zone_count s) (above_of s e) c))
+  on_circle c = some_below (edge_count s) (λ e. both (is_equal (below_of s e) c) (leads (zone_count s) (above_of s e) c))
 
   -- zone z has a circle at it or below it: the zones that refusal 13 spoke of before P4
   abbrev pub above_circle : ℕ → Formula
-  above_circle z = someBelow (zone_count s) (λ c. both (on_circle c) (leads (zone_count s) c z))
+  above_circle z = some_below (zone_count s) (λ c. both (on_circle c) (leads (zone_count s) c z))

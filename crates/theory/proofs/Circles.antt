@@ -12,7 +12,7 @@ use lib.IntN.{ℤ, pos}
 use lib.ListN.{length}
 use borrow.Author.Tests.{ltb-false, not-true}
 use Rattle.subdivision.specs.declared.Verdict.{Verdict}
-use Rattle.subdivision.specs.Formula.{Formula, isEqual, both, either, implies, not_so, every_below, someBelow, holds, Means}
+use Rattle.subdivision.specs.Formula.{Formula, is_equal, both, either, implies, not_so, every_below, some_below, holds, Means}
 use Rattle.subdivision.specs.Lowest.{lowest}
 use Rattle.subdivision.specs.Sheet.{Sheet, sheet_of, edge_above, edge_below, edge_count, zone_count, above_of, below_of}
 use Rattle.subdivision.specs.ZoneLine.{position, is_in, is_ready, next_zone, line_to, zone_line, rule7, leads, on_circle, above_circle}
@@ -135,11 +135,11 @@ module _ (s : Sheet) where
         (true_or_false (holds (every_below (edge_count s) clause)))
       where
         clause : ℕ → Formula
-        clause e = implies (isEqual (above_of s e) z.zone) (is_in (below_of s e) (zone_line s))
+        clause e = implies (is_equal (above_of s e) z.zone) (is_in (below_of s e) (zone_line s))
 
         under : (e : ℕ) × (e < edge_count s) × (Means (clause e) → ⊥)
             → (e : ℕ) × (e < edge_count s) × ((above_of s e ≡ z.zone) × (position (below_of s e) (zone_line s) < length (zone_line s) → ⊥))
-        under (e, h, f) = (e, h, broken_implies (isEqual (above_of s e) z.zone) (is_in (below_of s e) (zone_line s)) f)
+        under (e, h, f) = (e, h, broken_implies (is_equal (above_of s e) z.zone) (is_in (below_of s e) (zone_line s)) f)
 
     -- the zone below that edge
     abbrev lower : Left → Left
@@ -221,8 +221,8 @@ module _ (west east : ℤ) (vertices : List ℤ) (edges : List ℕ) (zones : ℕ
   leads_of_edges : (k a b : ℕ) → leads (sheet_of west east vertices edges zones) k a b ≡ leads (sheet_of (pos 0) (pos 0) [] edges zones) k a b
   leads_of_edges zero a b = refl
   leads_of_edges (suc k) a b =
-      λ i. either (isEqual a b) (someBelow (length edges / 4) (λ e. both (isEqual (edge_below edges e) a) (leads_of_edges k (edge_above edges e) b i)))
+      λ i. either (is_equal a b) (some_below (length edges / 4) (λ e. both (is_equal (edge_below edges e) a) (leads_of_edges k (edge_above edges e) b i)))
 
   -- which zones are on a circle follows from the edges and the number of zones alone
   pub circle_of_edges : (c : ℕ) → on_circle (sheet_of west east vertices edges zones) c ≡ on_circle (sheet_of (pos 0) (pos 0) [] edges zones) c
-  circle_of_edges c = λ i. someBelow (length edges / 4) (λ e. both (isEqual (edge_below edges e) c) (leads_of_edges zones (edge_above edges e) c i))
+  circle_of_edges c = λ i. some_below (length edges / 4) (λ e. both (is_equal (edge_below edges e) c) (leads_of_edges zones (edge_above edges e) c i))

@@ -5,14 +5,14 @@ use Prim.Native.Nat.{ℕ, suc, ◌<◌, ◌≤◌}
 use native.Mathlib.Decide.{dec_le}
 use native.Mathlib.Nat.{lt_of_not-le, lt-suc_self}
 use native.Mathlib.Omega.{arith, by_contra}
-use Rattle.subdivision.specs.Formula.{Formula, is_less, isAtMost, both}
+use Rattle.subdivision.specs.Formula.{Formula, is_less, is_at_most, both}
 use Rattle.theory.proofs.Columns.{Drawing, InColumn, Rises, NextInColumn, TopThere, HighestUnder, LowestOver, TopOf, BottomOf}
 use Rattle.theory.proofs.Tops.{has_highest, has_lowest}
 
 module _ (d : Drawing) where
   -- edge e crosses column x, as a formula
   abbrev in_column : ℕ → ℕ → Formula
-  in_column x e = both (is_less e d.count) (both (isAtMost (d.from e) x) (is_less x (d.to e)))
+  in_column x e = both (is_less e d.count) (both (is_at_most (d.from e) x) (is_less x (d.to e)))
 
   -- a column with an edge under a level has a highest one
   pub highest_under_lem : (c : ℕ) (h : ℕ → ℕ) (level e : ℕ) → InColumn d c e → h e < level → (f : ℕ) × HighestUnder d c h level f

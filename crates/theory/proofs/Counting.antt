@@ -6,7 +6,7 @@ use Prim.Native.Nat.{ℕ, zero, suc, ◌+◌, ◌<◌, ◌≤◌}
 use native.Mathlib.Nat.{not-suc-le-zero, lt-suc_self, lt_irrefl, le_refl, add-zero, suc-ne-zero, ne_of_lt}
 use native.Mathlib.Omega.{arith}
 use borrow.Author.Tests.{ne_eqb}
-use Rattle.subdivision.specs.Formula.{Formula, isEqual, not_so, someBelow, some_under, holds, Means}
+use Rattle.subdivision.specs.Formula.{Formula, is_equal, not_so, some_below, some_under, holds, Means}
 use Rattle.theory.proofs.Decide.{true_or_false, below_suc, means, held, denies, fails}
 
 -- how many numbers below the count pass the test
@@ -74,7 +74,7 @@ count_less (suc n) test other z h p q f =
 module _ (n : ℕ) (f : ℕ → ℕ) (fits : (k : ℕ) → k ≤ n → f k < n) where
   -- z is the value of a number below k
   abbrev valued : ℕ → ℕ → Formula
-  valued k z = someBelow k (λ i. isEqual (f i) z)
+  valued k z = some_below k (λ i. is_equal (f i) z)
 
   -- z is the value of none of them
   abbrev fresh : ℕ → ℕ → Bool
@@ -102,4 +102,4 @@ module _ (n : ℕ) (f : ℕ → ℕ) (fits : (k : ℕ) → k ≤ n → f k < n) 
       (true_or_false (holds again))
     where
       again : Formula
-      again = someBelow (suc n) (λ j. valued j (f j))
+      again = some_below (suc n) (λ j. valued j (f j))

@@ -13,7 +13,7 @@ use Rattle.subdivision.specs.declared.Probed.{Probed}
 use Rattle.subdivision.specs.declared.Probed.TheVariants.{Covered, Missing}
 use Rattle.subdivision.specs.declared.Side.{Side}
 use Rattle.subdivision.specs.declared.Side.TheVariants.{Below, On, Above}
-use Rattle.subdivision.specs.Formula.{Formula, is_less, isAtMost, holds, Means}
+use Rattle.subdivision.specs.Formula.{Formula, is_less, is_at_most, holds, Means}
 use Rattle.subdivision.specs.Dyadic.{left_son, right_son}
 use Rattle.subdivision.specs.Sheet.{Sheet, zone_count, above_of, below_of, segment}
 use Rattle.subdivision.specs.Lines.{side_at}
@@ -96,10 +96,10 @@ module _ (s : Sheet) (index : List ℕ) (x y : ℕ) where
           → sided s w x y d e q (side_at (segment s e) x y) ≡ damaged
       go q (inl (side, h)) =
           ap (sided s w x y d e q) side
-          ∙ ends (isAtMost (w.place (above_of s e)) d.j) (onward (past d e q (w.place (above_of s e)) d.j)) (λ m. omega arith)
+          ∙ ends (is_at_most (w.place (above_of s e)) d.j) (onward (past d e q (w.place (above_of s e)) d.j)) (λ m. omega arith)
       go q (inr (side, h)) =
           ap (sided s w x y d e q) side
-          ∙ ends (isAtMost d.i (w.place (below_of s e))) (onward (past d e q d.i (w.place (below_of s e)))) (λ m. omega arith)
+          ∙ ends (is_at_most d.i (w.place (below_of s e))) (onward (past d e q d.i (w.place (below_of s e)))) (λ m. omega arith)
   fault_damages d (zone_at_fault h z) =
       turn_arrives d h ∙ ends (is_less (w.zone d.i) (zone_count s)) (answered (Zone (w.zone d.i)) d) (λ m. omega arith)
 
@@ -109,14 +109,14 @@ module _ (s : Sheet) (index : List ℕ) (x y : ℕ) where
       → (g : Side) → side_at (segment s e) x y ≡ g → sided s w x y d e q g ≡ damaged → FaultAt s index x y d
   side_fault d e q o f m On side h = absurd (false≢true cc)
   side_fault d e q o f m Above side h =
-      go (broken_or_later (isAtMost (w.place (above_of s e)) d.j) (onward (past d e q (w.place (above_of s e)) d.j)) h)
+      go (broken_or_later (is_at_most (w.place (above_of s e)) d.j) (onward (past d e q (w.place (above_of s e)) d.j)) h)
     where
       go : (w.place (above_of s e) ≤ d.j → ⊥) ⊎ ((w.place (above_of s e) ≤ d.j) × (onward (past d e q (w.place (above_of s e)) d.j) ≡ damaged))
           → FaultAt s index x y d
       go (inl n) = passing e o f m (inl (side, omega (arith, n)))
       go (inr (l, c)) = absurd (false≢true cc)
   side_fault d e q o f m Below side h =
-      go (broken_or_later (isAtMost d.i (w.place (below_of s e))) (onward (past d e q d.i (w.place (below_of s e)))) h)
+      go (broken_or_later (is_at_most d.i (w.place (below_of s e))) (onward (past d e q d.i (w.place (below_of s e)))) h)
     where
       go : (d.i ≤ w.place (below_of s e) → ⊥) ⊎ ((d.i ≤ w.place (below_of s e)) × (onward (past d e q d.i (w.place (below_of s e))) ≡ damaged))
           → FaultAt s index x y d

@@ -6,7 +6,7 @@ use Prim.Native.Nat.{ℕ, zero, suc, ◌<◌}
 use native.Mathlib.Nat.{not-suc-le-zero, lt-suc_self, le_of_suc-le-suc, eq-or-lt_of_le}
 use native.Mathlib.Omega.{arith}
 use borrow.Author.Tests.{ltb-true, leb-true, eqb-true, lt-ltb, le-leb, eq-eqb}
-use Rattle.subdivision.specs.Formula.{Formula, is_less, isAtMost, isEqual, both, either, implies, not_so, every_below, someBelow, every_under, some_under, holds, Means}
+use Rattle.subdivision.specs.Formula.{Formula, is_less, is_at_most, is_equal, both, either, implies, not_so, every_below, some_below, every_under, some_under, holds, Means}
 
 -- ---- tests
 
@@ -95,8 +95,8 @@ every_no (suc n) test e = go (test n) refl e (every_no n test)
 -- the computed reading decides the statement, both ways
 pub decides : (p : Formula) → (holds p ≡ true → Means p) × (Means p → holds p ≡ true)
 decides (is_less a b) = (ltb-true a b, lt-ltb a b)
-decides (isAtMost a b) = (leb-true a b, le-leb a b)
-decides (isEqual a b) = (eqb-true a b, eq-eqb a b)
+decides (is_at_most a b) = (leb-true a b, le-leb a b)
+decides (is_equal a b) = (eqb-true a b, eq-eqb a b)
 decides (both p q) =
     (λ e. ((decides p).0 (both_yes (holds p) (holds q) e).0, (decides q).0 (both_yes (holds p) (holds q) e).1), λ m. yes_both (holds p) (holds q) ((decides p).1 m.0) ((decides q).1 m.1))
 decides (either p q) =
@@ -107,7 +107,7 @@ decides (not_so p) =
     (λ e m. not_yes (holds p) e ((decides p).1 m), λ f. yes_not (holds p) (λ a. f ((decides p).0 a)))
 decides (every_below n p) =
     (λ e k h. (decides (p k)).0 (every_yes n (λ i. holds (p i)) e k h), λ f. yes_every n (λ i. holds (p i)) (λ k h. (decides (p k)).1 (f k h)))
-decides (someBelow n p) =
+decides (some_below n p) =
     (λ e. ((some_yes n (λ i. holds (p i)) e).0, (some_yes n (λ i. holds (p i)) e).1, (decides (p (some_yes n (λ i. holds (p i)) e).0)).0 (some_yes n (λ i. holds (p i)) e).2), λ m. yes_some n (λ i. holds (p i)) m.0 m.1 ((decides (p m.0)).1 m.2))
 
 -- what holds is so

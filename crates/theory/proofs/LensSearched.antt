@@ -7,7 +7,7 @@ use native.Mathlib.Omega.{arith}
 use lib.ListN.{length, take, length-take, length-append}
 use Rattle.subdivision.specs.declared.Answer.{Answer}
 use Rattle.subdivision.specs.declared.Verdict.TheVariants.{Passed}
-use Rattle.subdivision.specs.Formula.{Formula, isAtMost, both, Means}
+use Rattle.subdivision.specs.Formula.{Formula, is_at_most, both, Means}
 use Rattle.subdivision.specs.Lists.{tab}
 use Rattle.subdivision.specs.Dyadic.{bits}
 use Rattle.subdivision.specs.Sheet.{Sheet, shifted, edge_count, zone_count}
@@ -15,7 +15,7 @@ use Rattle.subdivision.specs.Reading.{on_sheet}
 use Rattle.subdivision.specs.Descent.{published_descent}
 use Rattle.subdivision.specs.Engine.{EngineAnswers, QuickAnswers, ThirdDemand}
 use Rattle.subdivision.specs.Calls.{Searched, opening, searching, search_ended}
-use Rattle.subdivision.specs.WorkedTable.{lens, Case, lens_cases, computed, searched, expected, worked-table}
+use Rattle.subdivision.specs.WorkedTable.{lens, Case, lens_cases, computed, searched, expected, worked_table}
 use Rattle.theory.proofs.Decide.{means}
 use Rattle.theory.proofs.HeldIndex.{opened_accepted, opened_holds}
 use Rattle.theory.proofs.ThirdDemand.{third_demand}
@@ -27,7 +27,7 @@ quick_published s x y lent r q =
 
 -- the points of these cases are on the lens sheet
 abbrev on_lens : List Case → Formula
-on_lens [] = isAtMost 0 0
+on_lens [] = is_at_most 0 0
 on_lens (c ∷ cs) = both (on_sheet lens (shifted c.x) (shifted c.y)) (on_lens cs)
 
 cases_on_lens : Means (on_lens lens_cases)
@@ -47,11 +47,11 @@ unfolding computed expected
 lens_searched w v engine demand =
     rows lens_cases cases_on_lens
     ∙ (sym (map-map (λ r. r.published) (computed (tab v 2)) lens_cases)
-    ∙ (ap (map (λ r. r.published)) (worked-table v).1
+    ∙ (ap (map (λ r. r.published)) (worked_table v).1
     ∙ map-map (λ r. r.published) (expected (tab v 2)) lens_cases))
   where
     passed : (opening lens (tab w 14)).verdict ≡ Passed
-    passed = ap (λ r. r.verdict) (worked-table w).0
+    passed = ap (λ r. r.verdict) (worked_table w).0
 
     row : Case → Searched
     row c = search_ended (published_descent lens (shifted c.x) (shifted c.y)) (tab v 2)

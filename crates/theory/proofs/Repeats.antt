@@ -11,7 +11,7 @@ use lib.Dec.{eqb}
 use lib.IntN.{ℤ, pos}
 use lib.ListN.{length, get_or}
 use borrow.Author.Tests.{eqb-true, eq-eqb, not-true}
-use Rattle.subdivision.specs.Formula.{Formula, both, isEqual, not_so, holds, Means}
+use Rattle.subdivision.specs.Formula.{Formula, both, is_equal, not_so, holds, Means}
 use Rattle.subdivision.specs.Lowest.{lowest}
 use Rattle.subdivision.specs.Order.{Before, SortedBelow}
 use Rattle.subdivision.specs.PointOrder.{PointBefore, ByPoint}
@@ -26,7 +26,7 @@ use Rattle.theory.proofs.Order.{before_irrefl, before_trans}
 -- vertices u and v are the same point
 abbrev pub same_point : List ℤ → ℕ → ℕ → Formula
 same_point vertices u v =
-    both (isEqual (vertex_x vertices u) (vertex_x vertices v)) (isEqual (vertex_y vertices u) (vertex_y vertices v))
+    both (is_equal (vertex_x vertices u) (vertex_x vertices v)) (is_equal (vertex_y vertices u) (vertex_y vertices v))
 
 -- the key of vertex v: its x, and then its y
 abbrev pub point_key : List ℤ → ℕ → ℕ

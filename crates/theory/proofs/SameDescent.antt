@@ -15,7 +15,7 @@ use Rattle.subdivision.specs.declared.Answer.TheVariants.{Zone}
 use Rattle.subdivision.specs.declared.Probed.TheVariants.{Covered}
 use Rattle.subdivision.specs.declared.Side.{Side}
 use Rattle.subdivision.specs.declared.Side.TheVariants.{Below, On, Above}
-use Rattle.subdivision.specs.Formula.{is_less, isAtMost}
+use Rattle.subdivision.specs.Formula.{is_less, is_at_most}
 use Rattle.subdivision.specs.Dyadic.{left_son, right_son}
 use Rattle.subdivision.specs.Sheet.{Sheet, edge_count, zone_count, above_of, below_of, segment}
 use Rattle.subdivision.specs.Lines.{side_at}
@@ -174,7 +174,7 @@ module _ (s : Sheet) (a : Accepted s) (x y : ℕ) (o : OnSheet s x y) where
           (rw (place_above, place_below) ((omega (arith, chain_inside), omega (arith, between.1, sound.inside)), (below, above)))
 
       stays : (i j : ℕ) → i ≤ j → stepped w (next i j) ≡ onward (next i j)
-      stays i j h = rw (breaks_not w (isAtMost i j) h, stepped)
+      stays i j h = rw (breaks_not w (is_at_most i j) h, stepped)
 
       steps : (g : Side) → side_at (segment s e) x y ≡ g → examined s w x y d e probed.0 ≡ after g
       steps On side = rw (places_kept_lem, examined, side) (ap (λ r. answered r (next d.i d.j)) (on_edge_plain s a x y o e b c side))

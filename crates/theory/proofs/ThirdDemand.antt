@@ -107,4 +107,4 @@ module _ (s : Sheet) (index : List ℕ) (x y : ℤ) (lent : List ℕ) where
 
   -- an opened sheet searched at any point, with room for a trail, gives the plain reading's answer
   pub searched_is_read_everywhere : Accepted s → HoldsIndex s index → bits (zone_count s - 1) ≤ length lent → (searching s index x y lent).found.answer ≡ reading s x y
-  searched_is_read_everywhere a held-index room = ⊎_elim (λ on. searched_is_read a held-index on room) (λ off. search_off a held-index off ∙ sym (read_off a off)) (decided (on_sheet s (shifted x) (shifted y)))
+  searched_is_read_everywhere a held_index room = ⊎_elim (λ on. searched_is_read a held_index on room) (λ off. search_off a held_index off ∙ sym (read_off a off)) (decided (on_sheet s (shifted x) (shifted y)))

@@ -10,7 +10,7 @@ use Rattle.subdivision.specs.declared.Probed.{Probed}
 use Rattle.subdivision.specs.declared.Probed.TheVariants.{Covered, Missing}
 use Rattle.subdivision.specs.declared.Side.{Side}
 use Rattle.subdivision.specs.declared.Side.TheVariants.{Below, On, Above}
-use Rattle.subdivision.specs.Formula.{Formula, is_less, isAtMost, holds, Means}
+use Rattle.subdivision.specs.Formula.{Formula, is_less, is_at_most, holds, Means}
 use Rattle.subdivision.specs.Dyadic.{left_son, right_son}
 use Rattle.subdivision.specs.Sheet.{Sheet, zone_count, above_of, below_of, segment}
 use Rattle.subdivision.specs.Lines.{side_at}
@@ -48,9 +48,9 @@ module _ (s : Sheet) (w : LookUps) (x y : ℕ) where
   pub data Onward (d next : Descent) : Type 0 where
     leftward : d.i < d.j → d.j < d.k → next ≡ to_chain d (left_son d.k) → Onward d next
     rightward : d.i < d.j → d.k ≤ d.i → next ≡ to_chain d (right_son d.k) → Onward d next
-    above : (e q : ℕ) → Examines d e q → side_at (segment s e) x y ≡ Above → Judged w (isAtMost (w.place (above_of s e)) d.j)
+    above : (e q : ℕ) → Examines d e q → side_at (segment s e) x y ≡ Above → Judged w (is_at_most (w.place (above_of s e)) d.j)
         → next ≡ past d e q (w.place (above_of s e)) d.j → Onward d next
-    below : (e q : ℕ) → Examines d e q → side_at (segment s e) x y ≡ Below → Judged w (isAtMost d.i (w.place (below_of s e)))
+    below : (e q : ℕ) → Examines d e q → side_at (segment s e) x y ≡ Below → Judged w (is_at_most d.i (w.place (below_of s e)))
         → next ≡ past d e q d.i (w.place (below_of s e)) → Onward d next
 
   -- what a turn found that answers
@@ -110,10 +110,10 @@ module _ (s : Sheet) (w : LookUps) (x y : ℕ) where
       side : (e q : ℕ) → Examines d e q → (t : Side) → side_at (segment s e) x y ≡ t → sided d e q t ≡ r → LedTo d r
       side e q f On c m = subst (LedTo d) m (landing e q f c refl refl)
       side e q f Above c m =
-          let p = undamaged w (isAtMost (w.place (above_of s e)) d.j) (onward (past d e q (w.place (above_of s e)) d.j)) r n m in
+          let p = undamaged w (is_at_most (w.place (above_of s e)) d.j) (onward (past d e q (w.place (above_of s e)) d.j)) r n m in
           subst (LedTo d) p.1 (above e q f c p.0 refl)
       side e q f Below c m =
-          let p = undamaged w (isAtMost d.i (w.place (below_of s e))) (onward (past d e q d.i (w.place (below_of s e)))) r n m in
+          let p = undamaged w (is_at_most d.i (w.place (below_of s e))) (onward (past d e q d.i (w.place (below_of s e)))) r n m in
           subst (LedTo d) p.1 (below e q f c p.0 refl)
 
       go : (a b c : Bool) → ltb d.i d.j ≡ a → ltb d.j d.k ≡ b → leb d.k d.i ≡ c → chosen d a b c ≡ r → LedTo d r

@@ -14,7 +14,7 @@ use Rattle.subdivision.specs.declared.Verdict.TheVariants.{Passed, Refused}
 use Rattle.subdivision.specs.declared.Look.TheVariants.{Faulty, West, Covering, Beyond}
 use Rattle.subdivision.specs.declared.Probed.TheVariants.{Covered, Missing}
 use Rattle.subdivision.specs.Limits.{Limits}
-use Rattle.subdivision.specs.Formula.{Formula, is_less, isAtMost, isEqual, both, every_under, holds}
+use Rattle.subdivision.specs.Formula.{Formula, is_less, is_at_most, is_equal, both, every_under, holds}
 use Rattle.subdivision.specs.Lists.{put}
 use Rattle.subdivision.specs.Sheet.{Sheet, shifted, west_margin, east_margin, vertex_count, edge_count, zone_count, x_of, y_of, west_of, east_of, segment}
 use Rattle.subdivision.specs.Lines.{covers}
@@ -79,9 +79,9 @@ module _ (s : Sheet) (l m : Limits) (a : Within l s) (b : Within m s) where
   counts_same : holds (counts_kept_under l s) ≡ holds (counts_kept_under m s)
   counts_same =
       both_same whole (counts_within_under l v e n) (counts_within_under m v e n)
-      (λ _. both_goes_on (both (isAtMost v l.vertices) (isAtMost e l.edges)) (both (isAtMost 1 n) (isAtMost n l.zones)) (held (both (isAtMost v l.vertices) (isAtMost e l.edges)) (a.vertices, a.edges))
-      ∙ both_same (isAtMost 1 n) (isAtMost n l.zones) (isAtMost n m.zones) (λ _. held (isAtMost n l.zones) a.zones ∙ sym (held (isAtMost n m.zones) b.zones))
-      ∙ sym (both_goes_on (both (isAtMost v m.vertices) (isAtMost e m.edges)) (both (isAtMost 1 n) (isAtMost n m.zones)) (held (both (isAtMost v m.vertices) (isAtMost e m.edges)) (b.vertices, b.edges))))
+      (λ _. both_goes_on (both (is_at_most v l.vertices) (is_at_most e l.edges)) (both (is_at_most 1 n) (is_at_most n l.zones)) (held (both (is_at_most v l.vertices) (is_at_most e l.edges)) (a.vertices, a.edges))
+      ∙ both_same (is_at_most 1 n) (is_at_most n l.zones) (is_at_most n m.zones) (λ _. held (is_at_most n l.zones) a.zones ∙ sym (held (is_at_most n m.zones) b.zones))
+      ∙ sym (both_goes_on (both (is_at_most v m.vertices) (is_at_most e m.edges)) (both (is_at_most 1 n) (is_at_most n m.zones)) (held (both (is_at_most v m.vertices) (is_at_most e m.edges)) (b.vertices, b.edges))))
     where
       v : ℕ
       v = vertex_count s
@@ -94,7 +94,7 @@ module _ (s : Sheet) (l m : Limits) (a : Within l s) (b : Within m s) where
 
       -- the tables are whole records
       whole : Formula
-      whole = both (isEqual (length s.vertices % 2) 0) (isEqual (length s.edges % 4) 0)
+      whole = both (is_equal (length s.vertices % 2) 0) (is_equal (length s.edges % 4) 0)
 
   margins_same : holds (margins_kept_under l s) ≡ holds (margins_kept_under m s)
   margins_same =
@@ -120,7 +120,7 @@ module _ (s : Sheet) (l m : Limits) (a : Within l s) (b : Within m s) where
 
       -- the vertex is between the margins
       between : Formula
-      between = both (isAtMost (west_margin s) x) (isAtMost x (east_margin s))
+      between = both (is_at_most (west_margin s) x) (is_at_most x (east_margin s))
 
   -- lines after refusals 1 and 2, in both
   pub limits_same : (rs qs : List Refusal) → judged rs ≡ judged qs → judged (limit_refusals_under l s ++ rs) ≡ judged (limit_refusals_under m s ++ qs)
@@ -147,7 +147,7 @@ module _ (s : Sheet) (l m : Limits) (a : Within l s) (b : Within m s) where
   -- a point is on the sheet under both, where its y is in range under both
   on_same : (x y : ℕ) → InRangeUnder l y → InRangeUnder m y → holds (on_sheet_under s l x y) ≡ holds (on_sheet_under s m x y)
   on_same x y h k =
-      both_same (both (isAtMost (west_margin s) x) (isAtMost x (east_margin s))) (in_range_under l y) (in_range_under m y) (λ _. range_same y h k)
+      both_same (both (is_at_most (west_margin s) x) (is_at_most x (east_margin s))) (in_range_under l y) (in_range_under m y) (λ _. range_same y h k)
 
   -- such a point is read alike under both limits
   pub read_same : (x y : ℤ) → InRangeUnder l (shifted y) → InRangeUnder m (shifted y) → reading_under l s x y ≡ reading_under m s x y

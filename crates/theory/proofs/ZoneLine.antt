@@ -11,7 +11,7 @@ use lib.IntN.{ℤ, pos}
 use lib.ListN.{length, get_or, get_or-append}
 use lib.Seq.{get_or-append_seam}
 use borrow.Author.Tests.{lt-ltb, ltb-true, not-false}
-use Rattle.subdivision.specs.Formula.{Formula, isEqual, implies, not_so, every_below, holds, Means}
+use Rattle.subdivision.specs.Formula.{Formula, is_equal, implies, not_so, every_below, holds, Means}
 use Rattle.subdivision.specs.Sheet.{Sheet, sheet_of, edge_count, zone_count, above_of, below_of}
 use Rattle.subdivision.specs.ZoneLine.{position, is_in, InLine, Rule7, is_ready, next_zone, lengthened, line_to, zone_line}
 use Rattle.theory.proofs.Decide.{true_or_false, below_suc, means, held, denies, fails, broken_item, broken_implies}
@@ -155,13 +155,13 @@ module _ (s : Sheet) where
       (true_or_false (holds (every_below (edge_count s) clause)))
     where
       clause : ℕ → Formula
-      clause e = implies (isEqual (above_of s e) z) (is_in (below_of s e) l)
+      clause e = implies (is_equal (above_of s e) z) (is_in (below_of s e) l)
 
       down : (e : ℕ) × (e < edge_count s) × (Means (clause e) → ⊥)
           → ((y : ℕ) → position y k < fuel → y < zone_count s → (position y l < length l → ⊥) → (y : ℕ) × (y < zone_count s) × (holds (is_ready s l y) ≡ true))
           → (y : ℕ) × (y < zone_count s) × (holds (is_ready s l y) ≡ true)
       down f rest =
-          let broken = broken_implies (isEqual (above_of s f.0) z) (is_in (below_of s f.0) l) f.2 in
+          let broken = broken_implies (is_equal (above_of s f.0) z) (is_in (below_of s f.0) l) f.2 in
           let up : position (below_of s f.0) k < position z k = rw broken.0 at (i.rising f.0 f.1) in
           rest (below_of s f.0) (omega arith) (named f.0 f.1) broken.1
 

@@ -8,7 +8,7 @@ use lib.IntN.{ℤ}
 use lib.ListN.{length, take, drop}
 use lib.Seq.{take-append_seam}
 use Rattle.subdivision.specs.declared.Verdict.{Verdict}
-use Rattle.subdivision.specs.Formula.{isAtMost, Means}
+use Rattle.subdivision.specs.Formula.{is_at_most, Means}
 use Rattle.subdivision.specs.Lists.{put}
 use Rattle.subdivision.specs.Sheet.{Sheet}
 use Rattle.subdivision.specs.Refusals.{judged}
@@ -54,7 +54,7 @@ module _ (s : Sheet) (points : List ℤ) (text : List ℕ) where
 
   pub refused_exactly : (number : ℕ) → (leaves.written ≡ Written.Refused number) ↔ GivenBy (writer_refusals s points (length text)) number 0
   refused_exactly number =
-      (there (decided (writable_counts s points)) (decided (isAtMost (length (page_text s points)) (length text))), λ g. ap (λ r. r.written) (refuses number 0 (says_given (writer_refusals s points (length text)) number 0 g)))
+      (there (decided (writable_counts s points)) (decided (is_at_most (length (page_text s points)) (length text))), λ g. ap (λ r. r.written) (refuses number 0 (says_given (writer_refusals s points (length text)) number 0 g)))
     where
       there : Means (writable_counts s points) ⊎ (Means (writable_counts s points) → ⊥) → (length (page_text s points) ≤ length text) ⊎ (length (page_text s points) ≤ length text → ⊥)
           → leaves.written ≡ Written.Refused number → GivenBy (writer_refusals s points (length text)) number 0

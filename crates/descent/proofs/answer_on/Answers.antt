@@ -4,18 +4,18 @@ use mathlib.Core.Bool.{Bool}
 use Prim.Native.Nat.{ℕ}
 use Rattle.subdivision.specs.declared.Answer.{Answer}
 use Rattle.subdivision.specs.declared.Segment.{Segment}
-use Rattle.subdivision.specs.Formula.{isEqual, both, holds}
+use Rattle.subdivision.specs.Formula.{is_equal, both, holds}
 use Rattle.subdivision.specs.Descent.{on_edge}
 use Rattle.descent.specs.Steps.{answer_on}
 use Rattle.descent.proofs.answer_on.Goals as goal
 
 -- the point is the western end of an edge
 abbrev is_west : ℕ → ℕ → Segment → Bool
-is_west x y g = holds (both (isEqual g.xw x) (isEqual g.yw y))
+is_west x y g = holds (both (is_equal g.xw x) (is_equal g.yw y))
 
 -- the point is the eastern end of an edge
 abbrev is_east : ℕ → ℕ → Segment → Bool
-is_east x y g = holds (both (isEqual g.xe x) (isEqual g.ye y))
+is_east x y g = holds (both (is_equal g.xe x) (is_equal g.ye y))
 
 -- a test of the edge that was read is of the edge in the tables
 tested : (test : Segment → Bool) {g edge : Segment} {told answer : Bool} → told ≡ test g → g ≡ edge → told ≡ answer → test edge ≡ answer

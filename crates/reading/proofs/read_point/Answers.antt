@@ -11,7 +11,7 @@ use lib.ListN.{get_or, replicate}
 use Rattle.subdivision.specs.declared.Answer.{Answer}
 use Rattle.subdivision.specs.declared.Verdict.{Verdict}
 use Rattle.subdivision.specs.Limits.{max_zones}
-use Rattle.subdivision.specs.Formula.{isAtMost, both, holds}
+use Rattle.subdivision.specs.Formula.{is_at_most, both, holds}
 use Rattle.subdivision.specs.Sheet.{Sheet, sheet_of, shifted}
 use Rattle.subdivision.specs.Rules.{in_range}
 use Rattle.subdivision.specs.Refusals.{judged}
@@ -51,14 +51,14 @@ returns-in-Refused c =
 -- the test is of the point and the sheet's own margins
 tested : {west east x y : ℤ} (vertices : List ℤ) (edges : List ℕ) (zones w e px py : ℕ) (b : Bool) → SFits w32 west → SFits w32 east → SFits w32 x → SFits w32 y
     → w ≡ shifted (to_z w32 (of_z w32 west)) → e ≡ shifted (to_z w32 (of_z w32 east)) → px ≡ shifted (to_z w32 (of_z w32 x)) → py ≡ shifted (to_z w32 (of_z w32 y))
-    → b ≡ holds (both (both (isAtMost w px) (isAtMost px e)) (in_range py))
+    → b ≡ holds (both (both (is_at_most w px) (is_at_most px e)) (in_range py))
     → b ≡ holds (on_sheet (sheet_of west east vertices edges zones) (shifted x) (shifted y))
 tested vertices edges zones w e px py b fw fe fx fy kw ke kx ky k =
     let west_read = kw ∙ ap shifted (to_z-of_z fw) in
     let east_read = ke ∙ ap shifted (to_z-of_z fe) in
     let x_read = kx ∙ ap shifted (to_z-of_z fx) in
     let y_read = ky ∙ ap shifted (to_z-of_z fy) in
-    k ∙ (λ i. holds (both (both (isAtMost (west_read i) (x_read i)) (isAtMost (x_read i) (east_read i))) (in_range (y_read i))))
+    k ∙ (λ i. holds (both (both (is_at_most (west_read i) (x_read i)) (is_at_most (x_read i) (east_read i))) (in_range (y_read i))))
 
 pub returns-then-not-on_sheet : goal.returns-then-not-on_sheet
 returns-then-not-on_sheet c =

@@ -13,7 +13,7 @@ use lib.ListN.{length, take, drop, length-replicate, length-take}
 use Rattle.subdivision.specs.declared.Found.{Found}
 use Rattle.subdivision.specs.declared.Answer.{Answer}
 use Rattle.subdivision.specs.declared.Verdict.{Verdict}
-use Rattle.subdivision.specs.Formula.{isAtMost, both, holds, Means}
+use Rattle.subdivision.specs.Formula.{is_at_most, both, holds, Means}
 use Rattle.subdivision.specs.Dyadic.{bits}
 use Rattle.subdivision.specs.Layout.{index_need}
 use Rattle.subdivision.specs.Lists.{put}
@@ -57,9 +57,9 @@ own f e = e ∙ ap shifted (to_z-of_z f)
 
 -- the test is of the point and the sheet's own margins
 tested : (west east x y : ℤ) {w e px py : ℕ} (vertices : List ℤ) (edges : List ℕ) (zones : ℕ) (b : Bool)
-    → w ≡ shifted west → e ≡ shifted east → px ≡ shifted x → py ≡ shifted y → b ≡ holds (both (both (isAtMost w px) (isAtMost px e)) (in_range py))
+    → w ≡ shifted west → e ≡ shifted east → px ≡ shifted x → py ≡ shifted y → b ≡ holds (both (both (is_at_most w px) (is_at_most px e)) (in_range py))
     → b ≡ holds (on_sheet (sheet_of west east vertices edges zones) (shifted x) (shifted y))
-tested west east x y vertices edges zones b k l m n said = said ∙ (λ i. holds (both (both (isAtMost (k i) (m i)) (isAtMost (m i) (l i))) (in_range (n i))))
+tested west east x y vertices edges zones b k l m n said = said ∙ (λ i. holds (both (both (is_at_most (k i) (m i)) (is_at_most (m i) (l i))) (in_range (n i))))
 
 -- the sheet with its margins shifted is the sheet
 same_sheet : {west east : ℤ} {w e : ℕ} (vertices : List ℤ) (edges : List ℕ) (zones : ℕ) → SFits w32 west → SFits w32 east → w ≡ shifted west → e ≡ shifted east

@@ -3,7 +3,7 @@ use mathlib.Core.Path.{sym, ◌∙◌}
 use Prim.Native.Nat.{ℕ}
 use native.Mathlib.Omega.{arith}
 use borrow.Author.Tests.{ltb-true, ltb-false, not-true, not-false}
-use Rattle.subdivision.specs.Formula.{Formula, both, isAtMost}
+use Rattle.subdivision.specs.Formula.{Formula, both, is_at_most}
 use Rattle.subdivision.specs.Rules.{in_range}
 use Rattle.theory.proofs.Decide.{means, denies, fails, computes}
 use Rattle.probes.specs.Judged.{runs_inside}
@@ -17,7 +17,7 @@ kept c = runs_inside c.args.west c.args.east c.args.g
 -- the point is in range and between the margins
 abbrev inside : Start → ℕ → ℕ → Formula
 inside c x y =
-    both (both (in_range x) (in_range y)) (both (isAtMost c.args.west x) (isAtMost x c.args.east))
+    both (both (in_range x) (in_range y)) (both (is_at_most c.args.west x) (is_at_most x c.args.east))
 
 pub returns-then-not-point_inside : goal.returns-then-not-point_inside
 returns-then-not-point_inside c =

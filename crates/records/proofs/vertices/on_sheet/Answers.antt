@@ -1,7 +1,7 @@
 -- Left of the western margin or right of the eastern one the rule fails; between them, the range decides.
 use mathlib.Core.Path.{sym, ◌∙◌}
 use native.Mathlib.Omega.{arith}
-use Rattle.subdivision.specs.Formula.{Formula, both, isAtMost}
+use Rattle.subdivision.specs.Formula.{Formula, both, is_at_most}
 use Rattle.subdivision.specs.Rules.{in_range}
 use Rattle.theory.proofs.Decide.{held, fails, both_goes_on, both_ends}
 use Rattle.records.proofs.vertices.on_sheet.Goals.{Start}
@@ -9,7 +9,7 @@ use Rattle.records.proofs.vertices.on_sheet.Goals as goal
 
 -- the point is between the margins
 abbrev margins : Start → Formula
-margins c = both (isAtMost c.args.west c.args.x) (isAtMost c.args.x c.args.east)
+margins c = both (is_at_most c.args.west c.args.x) (is_at_most c.args.x c.args.east)
 
 pub returns-then-x-west : goal.returns-then-x-west
 returns-then-x-west c =

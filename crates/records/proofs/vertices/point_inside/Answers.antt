@@ -2,7 +2,7 @@
 use mathlib.Core.Path.{sym, ◌∙◌}
 use native.Mathlib.Omega.{arith}
 use borrow.Author.Tests.{leb-true, leb-false, not-true, not-false}
-use Rattle.subdivision.specs.Formula.{Formula, both, isAtMost}
+use Rattle.subdivision.specs.Formula.{Formula, both, is_at_most}
 use Rattle.subdivision.specs.Rules.{in_range}
 use Rattle.theory.proofs.Decide.{means, denies, fails, computes}
 use Rattle.records.proofs.vertices.point_inside.Goals.{Start}
@@ -11,7 +11,7 @@ use Rattle.records.proofs.vertices.point_inside.Goals as goal
 -- the rule at the point
 abbrev rule : Start → Formula
 rule c =
-    both (both (in_range c.args.x) (in_range c.args.y)) (both (isAtMost c.args.west c.args.x) (isAtMost c.args.x c.args.east))
+    both (both (in_range c.args.x) (in_range c.args.y)) (both (is_at_most c.args.west c.args.x) (is_at_most c.args.x c.args.east))
 
 pub returns-then-not-in_range : goal.returns-then-not-in_range
 returns-then-not-in_range c =

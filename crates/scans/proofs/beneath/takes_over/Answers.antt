@@ -2,7 +2,7 @@
 use mathlib.Core.Path.{◌≡◌, sym, ap₂, ◌∙◌}
 use borrow.Author.Tests.{eq-eqb, ne_eqb, not-true, not-false}
 use Rattle.subdivision.specs.declared.Segment.{Segment}
-use Rattle.subdivision.specs.Formula.{Formula, isEqual, both, either, holds}
+use Rattle.subdivision.specs.Formula.{Formula, is_equal, both, either, holds}
 use Rattle.subdivision.specs.Sheet.{segment_of}
 use Rattle.scans.specs.Scans.{lower_between, is_beneath}
 use Rattle.theory.proofs.Decide.{both_goes_on, both_ends, either_goes_on, either_ends}
@@ -18,7 +18,7 @@ under c = is_beneath c.args.vertices.now c.args.edges.now c.args.x c.args.y c.ar
 
 -- none was found before
 abbrev none : Start → Formula
-none c = isEqual c.args.best c.args.none
+none c = is_equal c.args.best c.args.none
 
 -- edge e is higher than the best so far
 abbrev higher : Start → Formula

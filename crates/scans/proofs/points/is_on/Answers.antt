@@ -4,7 +4,7 @@ use native.Mathlib.Nat.{ne_of_lt, ne_of_gt}
 use native.Mathlib.Omega.{arith}
 use borrow.Author.Tests.{eq-eqb, ne_eqb}
 use Rattle.subdivision.specs.declared.Side.{Side}
-use Rattle.subdivision.specs.Formula.{Formula, both, isAtMost, isEqual, holds}
+use Rattle.subdivision.specs.Formula.{Formula, both, is_at_most, is_equal, holds}
 use Rattle.subdivision.specs.Lines.{point_part, edge_part}
 use Rattle.theory.proofs.Decide.{held, fails, both_goes_on, both_ends}
 use Rattle.theory.proofs.Sides.{Stands, side_stands}
@@ -16,11 +16,11 @@ use Rattle.scans.proofs.points.is_on.Goals as goal
 
 -- the edge reaches the point's abscissa
 abbrev reaches : Start → Formula
-reaches c = both (isAtMost c.args.g.xw c.args.x) (isAtMost c.args.x c.args.g.xe)
+reaches c = both (is_at_most c.args.g.xw c.args.x) (is_at_most c.args.x c.args.g.xe)
 
 -- the point is as high as the edge
 abbrev meets : Start → Formula
-meets c = isEqual (point_part c.args.g c.args.y) (edge_part c.args.g c.args.x)
+meets c = is_equal (point_part c.args.g c.args.y) (edge_part c.args.g c.args.x)
 
 -- between the ends of the edge the point is on it where it is as high
 by_height : (c : lts.After-side tie.the-claims reads.Pre reads.Post) → holds (both (reaches c.before.before.before.before.before) (meets c.before.before.before.before.before)) ≡ holds (meets c.before.before.before.before.before)
