@@ -8,12 +8,12 @@ ghost use Rattle.frames.specs.Pages.{read_page, GoodPage, PageRefuses};
 ghost use Rattle.frames.specs.Texts.{OneText};
 
 use crate::judging::judge_page;
-use crate::tables::{read_head, read_tables};
+use crate::page_tables::{read_head, read_tables};
 use frames::{Judged, Page};
 
 pub mod heads;
 mod judging;
-mod tables;
+mod page_tables;
 
 // What a step of the judgement says of a line.
 #[derive(Clone, Copy)]

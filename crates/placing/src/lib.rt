@@ -11,14 +11,14 @@ ghost use Rattle.subdivision.specs.Sheet.{sheet_of};
 ghost use Rattle.frames.specs.declared.Written.{Written};
 ghost use Rattle.frames.specs.Placing.{max_page, max_text, sheet_text, head_beyond, placed_text, place_page};
 
-use crate::sheet::place_sheet;
+use crate::placed_sheet::place_sheet;
 use answers::put_refusal;
 use frames::{Head, MAX_PAGE, MAX_TEXT, Page, Written};
 use pages::heads::head_beyond;
 use pages::read_page;
 use subdivision::{HELD_EDGES, HELD_VERTICES, HELD_ZONES};
 
-mod sheet;
+mod placed_sheet;
 
 // A page of MAX_PAGE bytes has fewer points than this.
 const MAX_POINTS: usize = 3450;

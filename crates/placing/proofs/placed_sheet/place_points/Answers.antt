@@ -16,7 +16,7 @@ use Rattle.subdivision.specs.Engine.{HoldsIndex}
 use Rattle.subdivision.specs.Calls.{reading}
 use Rattle.frames.specs.Placing.{answer_text, answers_text}
 use Rattle.theory.proofs.Written.{put_more}
-use Rattle.placing.proofs.sheet.place_points.Goals as goal
+use Rattle.placing.proofs.placed_sheet.place_points.Goals as goal
 
 -- the sheet with its margins read back from their words
 abbrev stored : ℤ → ℤ → List ℤ → List ℕ → ℕ → Sheet

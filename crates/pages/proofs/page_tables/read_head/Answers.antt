@@ -3,7 +3,7 @@ use mathlib.Core.Path.{ap, ◌∙◌}
 use Rattle.frames.specs.Digits.{number, signed_of}
 use Rattle.framing.proofs.ReadDigits.{word_below}
 use Rattle.framing.proofs.Signs.{signed_kept}
-use Rattle.pages.proofs.tables.read_head.Goals as goal
+use Rattle.pages.proofs.page_tables.read_head.Goals as goal
 
 pub returns : goal.returns
 returns c =

@@ -18,7 +18,7 @@ use Rattle.theory.proofs.Faults.{says_given}
 use Rattle.theory.proofs.Judgement.{accepted_decides}
 use Rattle.theory.proofs.Written.{over_front}
 use Rattle.placing.proofs.Printed.{opens_by_tables, sheet_refused, sheet_passed, refused_short}
-use Rattle.placing.proofs.sheet.place_sheet.Goals as goal
+use Rattle.placing.proofs.placed_sheet.place_sheet.Goals as goal
 
 -- the sheet with its margins read back from their words
 abbrev stored : ℤ → ℤ → List ℤ → List ℕ → ℕ → Sheet

@@ -9,8 +9,8 @@ use Rattle.frames.specs.Digits.{signed_of}
 use Rattle.frames.specs.Lines.{number_at}
 use Rattle.frames.specs.Pages.{GoodPage, head_vertices, head_edges}
 use Rattle.framing.proofs.PageTexts.{good_length}
-use Rattle.framing.proofs.PageWords.{vertices_at, edges_at, points-at}
-use Rattle.pages.proofs.tables.read_tables.Goals as goal
+use Rattle.framing.proofs.PageWords.{vertices_at, edges_at, points_at_lem}
+use Rattle.pages.proofs.page_tables.read_tables.Goals as goal
 
 -- how long a good page is, by its counts
 long : (page : List ℕ) (v m count : ℕ) → GoodPage page count × ((v ≡ head_vertices page) × (m ≡ head_edges page)) → length page ≡ 43 + (19 * v + (35 * m + 19 * count))
@@ -67,5 +67,5 @@ returns c =
           ∙ ap (λ w. put w c.args.edges.now) (edges_at page c.args.count good);
       points_after = c.read_pairs-2.ensures
           ∙ (λ i. put (tab (λ k. signed_of (number_at page (43 + 19 * v i + 35 * m i + 19 * (k / 2)) (k % 2))) (2 * c.args.count)) c.args.points.now)
-          ∙ ap (λ w. put w c.args.points.now) (points-at page c.args.count good);
+          ∙ ap (λ w. put w c.args.points.now) (points_at_lem page c.args.count good);
     }

@@ -11,7 +11,7 @@ use Rattle.subdivision.specs.Sheet.{sheet_of}
 use Rattle.subdivision.specs.Calls.{searching}
 use Rattle.theory.proofs.ThirdDemand.{searched_is_read_everywhere}
 use Rattle.theory.proofs.Dyadic.{few_edges}
-use Rattle.placing.proofs.sheet.find.Goals as goal
+use Rattle.placing.proofs.placed_sheet.find.Goals as goal
 
 -- the answer of a search of these margins at this point
 abbrev searched : List ℤ → List ℕ → ℕ → List ℕ → ℤ → ℤ → ℤ → ℤ → Answer
