@@ -3,7 +3,7 @@
 
 ghost use Rattle.std.specs.Prelude.{◌≡◌, List, ℕ, ◌+◌, ◌-◌, ◌≤◌, ◌<◌, ◌/◌, pos, length, take};
 ghost use Rattle.subdivision.specs.declared.Answer.{Answer};
-ghost use Rattle.subdivision.specs.Limits.{max_edges, max_zones};
+ghost use Rattle.subdivision.specs.Limits.{max_edges, max_zones, max_examined};
 ghost use Rattle.subdivision.specs.Formula.{both, is_equal, holds};
 ghost use Rattle.subdivision.specs.Dyadic.{bits, top_bit, low_bit};
 ghost use Rattle.subdivision.specs.Sheet.{sheet_of};
@@ -268,7 +268,7 @@ pub fn descend(
     trail: &mut [u32; MAX_EXAMINED],
 ) -> Found
     requires le_zones { ((1 ≤ zones) × (zones ≤ max_zones)) × (length edges.now / 4 ≤ max_edges) }
-    requires zones_in_bounds { bits (zones - 1) ≤ length trail.old }
+    requires zones_in_bounds { bits (zones - 1) ≤ max_examined }
     ensures found { result ≡ found_by (index_descent (sheet_at west east vertices.now edges.now zones) index.now x y) }
     ensures listed { take result.examined trail.new ≡ trail_of (index_descent (sheet_at west east vertices.now edges.now zones) index.now x y) }
 {

@@ -24,7 +24,7 @@ loop-d-init c =
     let a = c.args in
     let s = sheet_at a.west a.east a.vertices.now a.edges.now a.zones in
     subst (λ (d : Descent). Reached s a.index.now a.x a.y d a.trail.now) (sym c.new-d.ensures)
-    (start_reached s a.index.now a.x a.y a.trail.now c.requires.le_zones.0.0 c.requires.zones_in_bounds)
+    (start_reached s a.index.now a.x a.y a.trail.now c.requires.le_zones.0.0 (omega (arith, c.requires.zones_in_bounds)))
 
 pub step-requires : goal.step-requires
 step-requires c =

@@ -9,7 +9,7 @@ use lib.IntN.{ℤ}
 use mir.Syntax.{w32}
 use mir.Val.{SFits, to_z, of_z}
 use mir.Facts.{to_z-of_z}
-use lib.ListN.{length, take, drop, length-replicate, length-take}
+use lib.ListN.{length, take, drop, length-take}
 use Rattle.subdivision.specs.declared.Found.{Found}
 use Rattle.subdivision.specs.declared.Answer.{Answer}
 use Rattle.subdivision.specs.declared.Verdict.{Verdict}
@@ -135,7 +135,7 @@ descend-found-requires c =
     let a = c.args in
     let f = c.ranges in
     let k = counts (sheet_of a.west a.east a.vertices.now a.edges.now a.zones) (limits_kept a.vertices.now a.edges.now a.zones c.limits.result f.west f.east c.limits.ensures c.in-Passed.is) in
-    record { le_zones = ((k.1.1.0, k.1.1.1), k.1.0.1); zones_in_bounds = rw length-replicate (few_edges _ k.1.1.1) }
+    record { le_zones = ((k.1.1.0, k.1.1.1), k.1.0.1); zones_in_bounds = few_edges _ k.1.1.1 }
 
 pub slice_bounds-examined-end : goal.slice_bounds-examined-end
 slice_bounds-examined-end c =
