@@ -11,7 +11,7 @@ use frames::Line;
 mod frame;
 
 // A lent page, and a place in it.
-#[derive(Drop)]
+#[derive(Clone, Copy)]
 pub struct Reader<'a> {
     pub page: &'a [u8],
     pub at: usize,

@@ -21,7 +21,7 @@ max_edges = 8192
 abbrev pub max_zones : ℕ
 max_zones = 4096
 
--- a search examines at most so many edges: the bit length of maxZones - 1
+-- a search examines at most so many edges: the bit length of max_zones - 1
 abbrev pub max_examined : ℕ
 max_examined = 12
 

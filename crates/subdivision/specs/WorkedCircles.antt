@@ -22,7 +22,7 @@ beneath_two =
 -- the cases, whatever words w were lent
 pub worked_circles :
     (w : ℕ → ℕ) →
-    -- of the circle case of document 01, which still names zone 1 (`worked-refusals`), zones 1 and 2 are on the circle
+    -- of the circle case of document 01, which still names zone 1 (`worked_refusals`), zones 1 and 2 are on the circle
     (tab (λ z. holds (on_circle (two_lenses 1 2) z)) 4 ≡ false ∷ true ∷ true ∷ false ∷ [])
     -- the circle between 5 and 6 beneath zone 2 names 5
     × (opening beneath_two (tab w 35) ≡ record { verdict = Refused 13 5; index = tab w 35 })
