@@ -7,10 +7,12 @@ A name that an .antt file of this repository declares and that has a capital ins
 vertexCount is vertex_count, bits-half is bits_half. Types, modules and facts, which begin with a capital, keep their names, and so
 do functions, fields, labels and strings of Rust, names of libraries, and names that Rattle makes of goals and loops.
 With --check nothing is written: names that would fall together are listed.
+It stops where docs/PORT.md stands, since it would turn names that Rattle makes in the proofs of today.
 """
 
 import collections
 import glob
+import os
 import re
 import sys
 
@@ -82,6 +84,9 @@ def library(path):
 
 
 def main():
+    if os.path.exists("docs/PORT.md"):
+        print("respell: docs/PORT.md says that this repository was ported; nothing is written", file=sys.stderr)
+        raise SystemExit(2)
     check = "--check" in sys.argv
     antt = sorted(glob.glob("crates/**/*.antt", recursive=True))
     rt = sorted(glob.glob("crates/**/*.rt", recursive=True))
