@@ -11,6 +11,8 @@ use lib.Dec.{T, eqb}
 use lib.Ieee.{Float, nan, binary64, fits}
 use lib.ListN.{length, get_or, drop, replicate, length-append, length-replicate, get_or-append}
 use lib.Seq.{get_or_at, get_or-set_same}
+use Rattle.std.specs.Prelude.{Ok, Err}
+use Rattle.subdivision.specs.Results.{Verdict, Reply, passed, refused, reply_of}
 use Rattle.subdivision.specs.declared.Answer.{Answer}
 use Rattle.subdivision.specs.Limits.{max_examined}
 use Rattle.subdivision.specs.Lists.{put}
@@ -32,8 +34,8 @@ use Rattle.accounting.proofs.Those.{times_those, those_only}
 -- ---- one place
 
 -- an answer that has a place in a month of n zones: in one of them, on a boundary, or off the sheet
-abbrev pub Placed : ℕ → Answer → Type 0
-Placed n a = ((z : ℕ) × (z < n) × (a ≡ Answer.Zone z)) ⊎ ((on_boundary a ≡ true) ⊎ (off_sheet a ≡ true))
+abbrev pub Placed : ℕ → Reply → Type 0
+Placed n a = ((z : ℕ) × (z < n) × (a ≡ Ok (Answer.Zone z))) ⊎ ((on_boundary a ≡ true) ⊎ (off_sheet a ≡ true))
 
 -- a test counted: one where it passes
 abbrev once : Bool → ℕ
@@ -59,25 +61,25 @@ sum_one (suc n) y h =
     (below_suc h)
 
 -- in how many places an answer puts a sample: the zones, the boundary list and the off-sheet list together
-abbrev places : ℕ → Answer → ℕ
+abbrev places : ℕ → Reply → ℕ
 places n a = sum_below (λ z. once (in_zone z a)) n + (once (on_boundary a) + once (off_sheet a))
 
 -- a boundary is one place
-boundary_once : (n : ℕ) (a : Answer) → on_boundary a ≡ true → places n a ≡ 1
-boundary_once n (Answer.Vertex v) e = omega (arith, sum_nothing n)
-boundary_once n (Answer.Edge f) e = omega (arith, sum_nothing n)
-boundary_once n (Answer.Zone z) e = absurd (false≢true e)
-boundary_once n (Answer.Refused number item) e = absurd (false≢true e)
+boundary_once : (n : ℕ) (a : Reply) → on_boundary a ≡ true → places n a ≡ 1
+boundary_once n (Ok (Answer.Vertex v)) e = omega (arith, sum_nothing n)
+boundary_once n (Ok (Answer.Edge f)) e = omega (arith, sum_nothing n)
+boundary_once n (Ok (Answer.Zone z)) e = absurd (false≢true e)
+boundary_once n (Err r) e = absurd (false≢true e)
 
 -- off the sheet is one place
-off_once : (n : ℕ) (a : Answer) → off_sheet a ≡ true → places n a ≡ 1
-off_once n (Answer.Vertex v) e = absurd (false≢true e)
-off_once n (Answer.Edge f) e = absurd (false≢true e)
-off_once n (Answer.Zone z) e = absurd (false≢true e)
-off_once n (Answer.Refused number item) e = rw e (omega (arith, sum_nothing n))
+off_once : (n : ℕ) (a : Reply) → off_sheet a ≡ true → places n a ≡ 1
+off_once n (Ok (Answer.Vertex v)) e = absurd (false≢true e)
+off_once n (Ok (Answer.Edge f)) e = absurd (false≢true e)
+off_once n (Ok (Answer.Zone z)) e = absurd (false≢true e)
+off_once n (Err r) e = rw e (omega (arith, sum_nothing n))
 
 -- an answer that has a place has exactly one
-placed_once : (n : ℕ) (a : Answer) → Placed n a → places n a ≡ 1
+placed_once : (n : ℕ) (a : Reply) → Placed n a → places n a ≡ 1
 placed_once n a (inl (z, h, e)) = rw e (omega (arith, sum_one n z h))
 placed_once n a (inr (inl e)) = boundary_once n a e
 placed_once n a (inr (inr e)) = off_once n a e
@@ -87,14 +89,14 @@ first_passes : (a b : Bool) → ◌≡◌ {A = Bool} (elim a [ true ↦ b | fals
 first_passes true b e = refl
 first_passes false b e = e
 
-module _ (answer : ℕ → Answer) (t : Samples) where
+module _ (answer : ℕ → Reply) (t : Samples) where
   -- a taken sample is among those with a test where its answer passes
-  times_taken : (test : Answer → Bool) (k : ℕ) → k < sample_count t → taken (reading_at t k) ≡ true
+  times_taken : (test : Reply → Bool) (k : ℕ) → k < sample_count t → taken (reading_at t k) ≡ true
       → times k (samples_that answer t test) ≡ once (test (answer k))
   times_taken test k h e = times_those (taken_and answer t test) (sample_count t) k h ∙ rw e
 
   -- a sample that was not taken is not among them
-  times_untaken : (test : Answer → Bool) (k : ℕ) → k < sample_count t → taken (reading_at t k) ≡ false
+  times_untaken : (test : Reply → Bool) (k : ℕ) → k < sample_count t → taken (reading_at t k) ≡ false
       → times k (samples_that answer t test) ≡ 0
   times_untaken test k h e = times_those (taken_and answer t test) (sample_count t) k h ∙ rw e
 
@@ -194,7 +196,7 @@ module _ (answer : ℕ → Answer) (t : Samples) where
 
 -- ---- samples outside every zone
 
-module _ (answer other : ℕ → Answer) (t u : Samples) (same : SameInZones answer t other u) where
+module _ (answer other : ℕ → Reply) (t u : Samples) (same : SameInZones answer t other u) where
   -- what is entered for each zone is the same without them
   same_tally : (z : ℕ) → tally_of answer t z ≡ tally_of other u z
   same_tally z =
@@ -221,7 +223,7 @@ module _ (answer other : ℕ → Answer) (t u : Samples) (same : SameInZones ans
     same_means means (suc z) = λ i. write_mean (judge (permit_of permits z) (same_tally z i)) (same_means means z i) z
 
 -- they change nothing that is written for the zones
-pub outside_changes_nothing : (answer other : ℕ → Answer) (t u : Samples) (permits : List Float) (n : ℕ) → SameInZones answer t other u
+pub outside_changes_nothing : (answer other : ℕ → Reply) (t u : Samples) (permits : List Float) (n : ℕ) → SameInZones answer t other u
     → (results : List ℕ) (means : List Float)
     → (put (result_words answer t permits n) results ≡ put (result_words other u permits n) results)
     × (means_left answer t permits means n ≡ means_left other u permits means n)

@@ -1,6 +1,7 @@
-use crate::{EDGES, LENT, VERTICES, number, text};
+use crate::{EDGES, LENT, VERTICES, sheet};
+use opening::open_sheet;
 use std::io;
-use subdivision::Verdict;
+use tables::{LentSheet, Tables};
 
 // The lens sheet with the x of vertex 3 at 1,000,000,000.
 const FAR: [i32; 8] = [0, 0, 2, 2, 2, -2, 1000000000, 0];
@@ -42,177 +43,95 @@ const WEDGE_VERTICES: [i32; 6] = [4, 0, 0, 1, 0, -1];
 // The edges of the wedge.
 const WEDGE: [u32; 8] = [1, 0, 2, 1, 2, 0, 3, 0];
 
-fn verdict(rt: &impl Print, v: Verdict) -> io::Result<()> {
-    match v {
-        Verdict::Passed => text(rt, b" opened:"),
-        Verdict::Refused(refusal, item) => {
-            text(rt, b" refused")?;
-            number(rt, refusal)?;
-            number(rt, item)?;
-            text(rt, b":")
-        }
-    }
-}
-
-// The first words, so many of them or all there are.
-pub(crate) fn front(rt: &impl Print, words: &[u32], count: usize) -> io::Result<()> {
-    let mut i = 0;
-    while i < words.len() {
-        if i < count {
-            number(rt, words[i])?;
-        }
-        i += 1;
-    }
-    Ok(())
-}
-
 // Every word, to the end of the line.
 pub(crate) fn words(rt: &impl Print, words: &[u32]) -> io::Result<()> {
-    front(rt, words, words.len())?;
-    text(rt, b"\n")
+    for word in words {
+        print!(rt; " {word}")?;
+    }
+    println!(rt; "")
 }
 
 // Opens a sheet over lent words, and prints the verdict and every word afterwards.
 pub(crate) fn opened(
     rt: &impl Print,
-    name: &[u8],
-    west: i32,
-    east: i32,
-    vertices: &[i32],
-    edges: &[u32],
-    zones: u32,
+    name: &str,
+    sheet: LentSheet,
     index: &mut [u32],
 ) -> io::Result<()> {
-    text(rt, name)?;
-    verdict(
-        rt,
-        opening::open_sheet(west, east, vertices, edges, zones, index),
-    )?;
+    match open_sheet(sheet, index) {
+        Ok(()) => print!(rt; "{name}: opened:")?,
+        Err(refusal) => print!(rt; "{name}: {refusal}:")?,
+    }
     words(rt, index)
 }
 
+// The lens sheet with other vertices, from 0 to 1,000,000,000.
+fn wide<'a>(vertices: &'a [i32]) -> LentSheet<'a> {
+    LentSheet {
+        west: 0,
+        east: 1000000000,
+        tables: Tables {
+            vertices,
+            edges: &EDGES,
+        },
+        zones: 3,
+    }
+}
+
 fn lenses(rt: &impl Print) -> io::Result<()> {
-    let vertices = VERTICES;
-    let edges = EDGES;
-    let mut short = [LENT; 13];
+    let lens = sheet(&VERTICES, &EDGES, 3);
+    opened(rt, "the lens, 13 words", lens, &mut [LENT; 13])?;
+    opened(rt, "x = 1,000,000,000", wide(&FAR), &mut [LENT; 14])?;
+    opened(rt, "x = 1,000,000,001", wide(&TOO_FAR), &mut [LENT; 14])?;
     opened(
         rt,
-        b"the lens, 13 words:",
-        0,
-        4,
-        &vertices,
-        &edges,
-        3,
-        &mut short,
-    )?;
-    let far = FAR;
-    let mut room = [LENT; 14];
-    opened(
-        rt,
-        b"x = 1,000,000,000:",
-        0,
-        1000000000,
-        &far,
-        &edges,
-        3,
-        &mut room,
-    )?;
-    let beyond = TOO_FAR;
-    let mut other = [LENT; 14];
-    opened(
-        rt,
-        b"x = 1,000,000,001:",
-        0,
-        1000000000,
-        &beyond,
-        &edges,
-        3,
-        &mut other,
-    )?;
-    let mut less = [LENT; 13];
-    opened(
-        rt,
-        b"x = 1,000,000,001, 13 words:",
-        0,
-        1000000000,
-        &beyond,
-        &edges,
-        3,
-        &mut less,
+        "x = 1,000,000,001, 13 words",
+        wide(&TOO_FAR),
+        &mut [LENT; 13],
     )
 }
 
 fn twins(rt: &impl Print) -> io::Result<()> {
-    let vertices = TWINS;
-    let circle = CIRCLE;
-    let mut first = [LENT; 23];
-    opened(rt, b"the circle:", 0, 4, &vertices, &circle, 4, &mut first)?;
-    let lower = BENEATH_VERTICES;
-    let beneath = BENEATH;
-    let mut other = [LENT; 35];
+    let beneath = sheet(&BENEATH_VERTICES, &BENEATH, 7);
+    opened(rt, "the circle", sheet(&TWINS, &CIRCLE, 4), &mut [LENT; 23])?;
     opened(
         rt,
-        b"a circle between 5 and 6 beneath zone 2:",
-        0,
-        4,
-        &lower,
-        &beneath,
-        7,
-        &mut other,
+        "a circle between 5 and 6 beneath zone 2",
+        beneath,
+        &mut [LENT; 35],
     )?;
-    let alike = ALIKE;
-    let mut second = [LENT; 23];
     opened(
         rt,
-        b"two like lenses:",
-        0,
-        4,
-        &vertices,
-        &alike,
-        4,
-        &mut second,
+        "two like lenses",
+        sheet(&TWINS, &ALIKE, 4),
+        &mut [LENT; 23],
     )?;
-    let corners = WEDGE_VERTICES;
-    let wedge = WEDGE;
-    let mut third = [LENT; 15];
-    opened(rt, b"the wedge:", 0, 4, &corners, &wedge, 4, &mut third)
+    opened(
+        rt,
+        "the wedge",
+        sheet(&WEDGE_VERTICES, &WEDGE, 4),
+        &mut [LENT; 15],
+    )
 }
 
 fn blanks(rt: &impl Print) -> io::Result<()> {
-    let vertices = [0i32; 2];
-    let edges = [0u32; 4];
-    let mut first = [LENT; 8];
     opened(
         rt,
-        b"nothing drawn, n = 2:",
-        0,
-        4,
-        &vertices[..0],
-        &edges[..0],
-        2,
-        &mut first,
+        "nothing drawn, n = 2",
+        sheet(&[], &[], 2),
+        &mut [LENT; 8],
     )?;
-    let mut second = [LENT; 5];
     opened(
         rt,
-        b"nothing drawn, n = 1:",
-        0,
-        4,
-        &vertices[..0],
-        &edges[..0],
-        1,
-        &mut second,
+        "nothing drawn, n = 1",
+        sheet(&[], &[], 1),
+        &mut [LENT; 5],
     )?;
-    let mut third = [LENT; 5];
     opened(
         rt,
-        b"nothing drawn, n = 0:",
-        0,
-        4,
-        &vertices[..0],
-        &edges[..0],
-        0,
-        &mut third,
+        "nothing drawn, n = 0",
+        sheet(&[], &[], 0),
+        &mut [LENT; 5],
     )
 }
 

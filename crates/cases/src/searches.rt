@@ -1,103 +1,119 @@
-use crate::openings::{front, opened, words};
-use crate::readings::answer;
-use crate::{EDGES, LENT, VERTICES, number, text};
+use crate::openings::{opened, words};
+use crate::{LENT, lens, sheet};
+use search::search_point;
 use std::io;
-use subdivision::{Found, MAX_EXAMINED, MAX_ZONES};
+use subdivision::{MAX_EXAMINED, MAX_ZONES};
+use tables::LentSheet;
 
-// The counted entries of a trail.
-fn entries(rt: &impl Print, trail: &[u32], count: u32) -> io::Result<()> {
-    if count == 0 {
-        text(rt, b" none")?;
-    }
-    front(rt, trail, count as usize)
-}
-
-// What a search gave: its answer, its trail and counts, and every lent trail word afterwards.
-fn result(rt: &impl Print, found: Found, trail: &[u32]) -> io::Result<()> {
-    let a = found.answer;
-    answer(rt, a)?;
-    text(rt, b", trail")?;
-    entries(rt, trail, found.examined)?;
-    text(rt, b",")?;
-    number(rt, found.examined)?;
-    text(rt, b" edges,")?;
-    number(rt, found.probes)?;
-    text(rt, b" probes; lent trail")?;
-    words(rt, trail)
-}
-
-// The quick search of a point of the lens sheet over a lent trail.
+// The quick search of a point over a lent trail: its answer, its trail and counts, and every lent trail word afterwards.
 fn searched(
     rt: &impl Print,
-    name: &[u8],
+    name: &str,
+    sheet: LentSheet,
     index: &[u32],
     x: i32,
     y: i32,
     trail: &mut [u32],
 ) -> io::Result<()> {
-    let vertices = VERTICES;
-    let edges = EDGES;
-    text(rt, name)?;
-    let found = search::search_point(0, 4, &vertices, &edges, 3, index, x, y, trail);
-    result(rt, found, trail)
+    match search_point(sheet, index, x, y, trail) {
+        Ok(found) => {
+            let answer = found.answer;
+            let examined = found.examined;
+            let probes = found.probes;
+            print!(rt; "{name}: {answer}, trail")?;
+            if examined == 0 {
+                print!(rt; " none")?;
+            }
+            for e in trail.iter().take(examined as usize) {
+                print!(rt; " {e}")?;
+            }
+            print!(rt; ", {examined} edges, {probes} probes; lent trail")?;
+        }
+        Err(refusal) => {
+            print!(rt; "{name}: {refusal}, trail none, 0 edges, 0 probes; lent trail")?;
+        }
+    }
+    words(rt, trail)
 }
 
-// The quick search of a point of the lens sheet over a trail of 4 words.
-fn lens_point(rt: &impl Print, name: &[u8], index: &[u32], x: i32, y: i32) -> io::Result<()> {
-    let mut trail = [LENT; 4];
-    searched(rt, name, index, x, y, &mut trail)
-}
-
+// The quick search of the worked points of the lens sheet over trails of 4 words.
 fn points(rt: &impl Print, index: &[u32]) -> io::Result<()> {
-    lens_point(rt, b"the lens searched at (2,0):", index, 2, 0)?;
-    lens_point(rt, b"the lens searched at (2,2):", index, 2, 2)?;
-    lens_point(rt, b"the lens searched at (1,1):", index, 1, 1)?;
-    lens_point(rt, b"the lens searched at (4,0):", index, 4, 0)?;
-    lens_point(rt, b"the lens searched at (0,0):", index, 0, 0)?;
-    lens_point(rt, b"the lens searched at (1,5):", index, 1, 5)?;
-    lens_point(rt, b"the lens searched at (3,-2):", index, 3, -2)?;
-    lens_point(rt, b"the lens searched at (5,0):", index, 5, 0)
+    for (name, x, y) in [
+        ("the lens searched at (2,0)", 2, 0),
+        ("the lens searched at (2,2)", 2, 2),
+        ("the lens searched at (1,1)", 1, 1),
+        ("the lens searched at (4,0)", 4, 0),
+        ("the lens searched at (0,0)", 0, 0),
+        ("the lens searched at (1,5)", 1, 5),
+        ("the lens searched at (3,-2)", 3, -2),
+        ("the lens searched at (5,0)", 5, 0),
+    ] {
+        searched(rt, name, lens(), index, x, y, &mut [LENT; 4])?;
+    }
+    Ok(())
 }
 
-// The quick search of a point of a sheet with 4,096 zones and nothing drawn, over lent words and a lent trail.
-fn blank_point(rt: &impl Print, name: &[u8], index: &[u32], trail: &mut [u32]) -> io::Result<()> {
-    let vertices = VERTICES;
-    let edges = EDGES;
-    text(rt, name)?;
-    let found = search::search_point(0, 4, &vertices[..0], &edges[..0], 4096, index, 2, 0, trail);
-    result(rt, found, trail)
-}
-
+// A point of a sheet with 4,096 zones and nothing drawn, over a trail that is too short and one with room.
 fn trails(rt: &impl Print) -> io::Result<()> {
     let index = [LENT; 3 * MAX_ZONES + 1];
+    let blank = sheet(&[], &[], 4096);
     let mut short = [LENT; MAX_EXAMINED - 1];
-    blank_point(rt, b"4,096 zones, a trail of 11:", &index, &mut short)?;
+    searched(
+        rt,
+        "4,096 zones, a trail of 11",
+        blank,
+        &index,
+        2,
+        0,
+        &mut short,
+    )?;
+    // A fixed buffer: no heap, memory of a known size.
     let mut room = [LENT; MAX_EXAMINED];
-    blank_point(rt, b"4,096 zones, a trail of 12:", &index, &mut room)
+    searched(
+        rt,
+        "4,096 zones, a trail of 12",
+        blank,
+        &index,
+        2,
+        0,
+        &mut room,
+    )
 }
 
 // The worked points of document 01 by the quick search, over the index that opening writes; then a
 // short trail, a short index, and an index whose place of zone 0 is no place; then trails for the largest number of zones.
 pub(crate) fn searches(rt: &impl Print) -> io::Result<()> {
-    let vertices = VERTICES;
-    let edges = EDGES;
+    // A fixed buffer: no heap, memory of a known size.
     let mut index = [LENT; 15];
-    opened(
-        rt,
-        b"the lens, 15 words:",
-        0,
-        4,
-        &vertices,
-        &edges,
-        3,
-        &mut index,
-    )?;
+    opened(rt, "the lens, 15 words", lens(), &mut index)?;
     points(rt, &index)?;
-    let mut short = [LENT; 1];
-    searched(rt, b"a trail of 1 word:", &index, 2, 0, &mut short)?;
-    let few = [LENT; 13];
-    lens_point(rt, b"13 index words:", &few, 2, 0)?;
+    searched(
+        rt,
+        "a trail of 1 word",
+        lens(),
+        &index,
+        2,
+        0,
+        &mut [LENT; 1],
+    )?;
+    searched(
+        rt,
+        "13 index words",
+        lens(),
+        &[LENT; 13],
+        2,
+        0,
+        &mut [LENT; 4],
+    )?;
     index[0] = 7;
-    lens_point(rt, b"the place of zone 0 set to 7:", &index, 2, 0)?;
+    searched(
+        rt,
+        "the place of zone 0 set to 7",
+        lens(),
+        &index,
+        2,
+        0,
+        &mut [LENT; 4],
+    )?;
     trails(rt)
 }

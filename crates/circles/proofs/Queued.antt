@@ -1,60 +1,43 @@
--- The marks and the queue: nothing is queued at first, what queuing a zone makes of them, and what taking a queued zone's steps does.
+-- The marks and the queue: nothing is queued at first, and what queuing a zone makes of them.
 use mathlib.Core.Path.{◌≡◌, refl, sym, ap, ◌∙◌}
 use mathlib.Core.Bool.{Bool, true, false}
 use mathlib.Core.List.{List, [], ◌∷◌, ◌++◌}
 use mathlib.Core.Logic.{⊎_elim}
-use Prim.Native.Nat.{ℕ, ◌+◌, ◌<◌, ◌≤◌}
+use Prim.Native.Nat.{ℕ, ◌+◌, ◌<◌}
 use native.Mathlib.Nat.{not-suc-le-zero, ne_of_lt}
 use native.Mathlib.Numerals.{add-one}
 use native.Mathlib.Omega.{arith}
 use lib.Dec.{eqb}
 use lib.ListN.{length, get_or, set, take, replicate, length-set, length-replicate, get_or-replicate}
-use lib.Seq.{ext_get_or, get_or-take, take-suc-set, get_or-set_same, get_or-set_other}
+use lib.Seq.{take-suc-set, get_or-set_same, get_or-set_other}
 use borrow.Author.Tests.{eqb-true, eqb-false}
 use Rattle.subdivision.specs.Formula.{holds}
 use Rattle.subdivision.specs.ZoneLine.{is_in}
 use Rattle.line.specs.Waiting.{zones_of}
 use Rattle.theory.proofs.Decide.{true_or_false, below_suc, held, denies}
-use Rattle.theory.proofs.Lists.{is_tab, get_d_tab, zeros_part}
+use Rattle.theory.proofs.Lists.{is_tab, get_d_tab}
 use Rattle.theory.proofs.Position.{length_snoc, in_at_end, in_same}
-use Rattle.theory.proofs.Reached.{RunOver, Reached, with_zone, with_above, run_of, run_over, reached_next, with_held, with_new, fits_none, fits_room, fits_with}
+use Rattle.theory.proofs.Reached.{with_zone, with_new, fits_none, fits_room, fits_with}
 use Rattle.circles.specs.Looking.{mark_of, Looking}
 
 -- a zone in the list has mark 1
 mark_held : (l : List ℕ) (y : ℕ) → holds (is_in y l) ≡ true → mark_of l y ≡ 1
 mark_held l y e = rw (e, mark_of)
 
--- another has mark 0
-mark_free : (l : List ℕ) (y : ℕ) → holds (is_in y l) ≡ false → mark_of l y ≡ 0
-mark_free l y e = rw (e, mark_of)
-
 -- with no mark set, nothing is queued
-pub looking_first : (marks queue : List ℕ) → marks ≡ replicate (length marks) 0 → length queue ≡ length marks → Looking marks queue 0
-looking_first marks queue none long =
-    record { marked = is_tab (mark_of []) 0 marks (length marks) refl (λ i h. zero i h); room = long; long = refl; zones = λ i h. absurd (not-suc-le-zero h); fits = fits_none (zones_of [] (length marks)) }
-  where
-    zero : (i : ℕ) → i < length marks → get_or marks i 0 ≡ 0
-    zero i h = ap (λ (l : List ℕ). get_or l i 0) none ∙ get_or-replicate (length marks) i 0 0 h
-
--- a part of a table of zeros is zeros
-pub zeros_are : (room n : ℕ) → n ≤ room → take n (replicate {A = ℕ} room 0) ≡ replicate (length (take n (replicate {A = ℕ} room 0))) 0
-zeros_are room n h =
-    ext_get_or 0 zeros (replicate (length zeros) 0) (sym (length-replicate (length zeros) 0)) (λ i b. entry i b ∙ sym (get_or-replicate (length zeros) i 0 0 b))
+pub looking_none : (n : ℕ) → Looking (replicate n 0) (replicate n 0) 0
+looking_none n =
+    record { marked = is_tab (mark_of []) 0 zeros (length zeros) refl (λ i h. get_or-replicate n i 0 0 (rw length-replicate at h)); room = refl; long = refl; zones = λ i h. absurd (not-suc-le-zero h); fits = fits_none (zones_of [] (length zeros)) }
   where
     zeros : List ℕ
-    zeros = take n (replicate room 0)
-
-    entry : (i : ℕ) → i < length zeros → get_or zeros i 0 ≡ 0
-    entry i b =
-        let below : i < n = omega (arith, zeros_part room n h) in
-        get_or-take n (replicate room 0) i 0 below ∙ get_or-replicate room i 0 0 (omega arith)
+    zeros = replicate n 0
 
 module _ (marks queue : List ℕ) (count zone : ℕ) (k : Looking marks queue count) (there : zone < length marks) where
   -- the zones queued so far
   abbrev so_far : List ℕ
   so_far = take count queue
 
-  pub mark_is : get_or marks zone 0 ≡ mark_of so_far zone
+  mark_is : get_or marks zone 0 ≡ mark_of so_far zone
   mark_is = ap (λ (l : List ℕ). get_or l zone 0) k.marked ∙ get_d_tab (mark_of so_far) (length marks) zone 0 there
 
   -- the mark tells whether the zone is queued
@@ -65,26 +48,17 @@ module _ (marks queue : List ℕ) (count zone : ℕ) (k : Looking marks queue co
       tells true = refl
       tells false = refl
 
-  -- a zone that is queued already changes nothing
-  pub zone_held : get_or marks zone 0 ≡ 1 → so_far ≡ with_zone so_far zone
-  zone_held e =
-      ⊎_elim (λ t. sym (with_held so_far zone t)) (λ f. absurd (omega (arith, e, mark_is, mark_free so_far zone f))) (true_or_false (holds (is_in zone so_far)))
-
-  module _ (free : get_or marks zone 0 ≡ 1 → ⊥) where
-    not_queued : holds (is_in zone so_far) ≡ false
-    not_queued =
-        ⊎_elim (λ t. absurd (free (mark_is ∙ mark_held so_far zone t))) (λ f. f) (true_or_false (holds (is_in zone so_far)))
-
-    -- another zone finds a place
+  module _ (free : holds (is_in zone so_far) ≡ false) where
+    -- a zone that is not queued finds a place
     pub zone_room : count < length queue
-    zone_room = omega (arith, k.long, k.room, fits_room (zones_of [] (length marks)) so_far zone there not_queued k.fits)
+    zone_room = omega (arith, k.long, k.room, fits_room (zones_of [] (length marks)) so_far zone there free k.fits)
 
     longer : take (count + 1) (set queue count zone) ≡ so_far ++ (zone ∷ [])
     longer = rw (add-one count) (take-suc-set queue count zone zone_room)
 
     -- and is put at the end of those queued
     pub zone_queued : take (count + 1) (set queue count zone) ≡ with_zone so_far zone
-    zone_queued = longer ∙ sym (with_new so_far zone not_queued)
+    zone_queued = longer ∙ sym (with_new so_far zone free)
 
     pub zone_looking : Looking (set marks zone 1) (set queue count zone) (count + 1)
     zone_looking =
@@ -97,7 +71,7 @@ module _ (marks queue : List ℕ) (count zone : ℕ) (k : Looking marks queue co
         old i h = rw (get_or-set_other queue count i zone 0 (ne_of_lt h)) (k.zones i h)
 
         own : mark_of (take (count + 1) (set queue count zone)) zone ≡ 1
-        own = ap (λ (l : List ℕ). mark_of l zone) longer ∙ mark_held (so_far ++ (zone ∷ [])) zone (held (is_in zone (so_far ++ (zone ∷ []))) (in_at_end zone so_far (denies (is_in zone so_far) not_queued)))
+        own = ap (λ (l : List ℕ). mark_of l zone) longer ∙ mark_held (so_far ++ (zone ∷ [])) zone (held (is_in zone (so_far ++ (zone ∷ []))) (in_at_end zone so_far (denies (is_in zone so_far) free)))
 
         other : (i : ℕ) → i < length marks → (i ≡ zone → ⊥) → get_or marks i 0 ≡ mark_of (take (count + 1) (set queue count zone)) i
         other i h d =
@@ -110,14 +84,3 @@ module _ (marks queue : List ℕ) (count zone : ℕ) (k : Looking marks queue co
           where
             same : i ≡ zone → get_or (set marks zone 1) i 0 ≡ mark_of (take (count + 1) (set queue count zone)) i
             same e = rw e (get_or-set_same marks zone 1 0 there ∙ sym own)
-
--- the steps of the zone at the head of the queue are taken
-pub head_taken : (edges queue : List ℕ) (n zone count head : ℕ) → Reached (zones_of edges n) zone (take count queue) head → head < count
-    → length (take count queue) ≡ count → (more : List ℕ)
-    → more ≡ with_above edges (run_of (zones_of edges n) (get_or queue head 0)) (take count queue) (length (run_of (zones_of edges n) (get_or queue head 0)))
-    → Reached (zones_of edges n) zone more (head + 1)
-head_taken edges queue n zone count head r h long more e =
-    rw (add-one head, e) (reached_next (zones_of edges n) zone (take count queue) head r (omega arith) (run_of (zones_of edges n) (get_or queue head 0)) over)
-  where
-    over : RunOver (zones_of edges n) (get_or (take count queue) head 0) (run_of (zones_of edges n) (get_or queue head 0))
-    over = rw (get_or-take count queue head 0 h) (run_over (zones_of edges n) (get_or queue head 0))

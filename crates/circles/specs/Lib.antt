@@ -1,3 +1,3 @@
 -- What the functions of `circles` ask and keep.
-pub mod Grouped
 pub mod Looking
+pub mod Named

@@ -9,53 +9,52 @@ ghost use Rattle.subdivision.specs.Sheet.{sheet_of};
 ghost use Rattle.subdivision.specs.Refusals.{counts_within_under, counts_within, counts_kept};
 
 use subdivision::{HELD_EDGES, HELD_VERTICES, HELD_ZONES, MAX_EDGES, MAX_VERTICES, MAX_ZONES};
+use tables::Tables;
 
-// The tables are whole records, and no count is beyond its limit.
-pub fn counts_kept(vertices: &[i32], edges: &[u32], zones: u32) -> bool
-    ensures { result ≡ holds (counts_kept (sheet_of (pos 0) (pos 0) vertices.now edges.now zones)) }
-{
-    if vertices.len() % 2 != 0 {
-        return false;
-    }
-    if edges.len() % 4 != 0 {
-        return false;
-    }
-    counts_within(vertices.len() / 2, edges.len() / 4, zones)
+// At most so many vertices, edges and zones.
+#[derive(Clone, Copy)]
+struct Most {
+    vertices: usize,
+    edges: usize,
+    zones: usize,
 }
 
-// So many vertices, edges and zones are within their limits.
+// The tables are whole records, and no count is beyond its limit.
+pub fn counts_kept(tables: Tables, zones: u32) -> bool
+    ensures { result ≡ holds (counts_kept (sheet_of (pos 0) (pos 0) tables.entry.vertices.now tables.entry.edges.now zones)) }
+{
+    tables.vertices.len() % 2 == 0
+        && tables.edges.len() % 4 == 0
+        && counts_within(tables.vertex_count(), tables.edge_count(), zones)
+}
+
+// So many vertices, edges and zones are within their limits. This one and `counts_held` are `at_most` of other limits.
 pub fn counts_within(vertices: usize, edges: usize, zones: u32) -> bool
     ensures { result ≡ holds (counts_within vertices edges zones) }
 {
-    at_most(MAX_VERTICES, MAX_EDGES, MAX_ZONES, vertices, edges, zones)
+    let most = Most {
+        vertices: MAX_VERTICES,
+        edges: MAX_EDGES,
+        zones: MAX_ZONES,
+    };
+    at_most(most, vertices, edges, zones)
 }
 
 // So many vertices, edges and zones are no more than a program with fixed buffers holds.
 pub fn counts_held(vertices: usize, edges: usize, zones: u32) -> bool
     ensures { result ≡ holds (counts_within_under program_limits vertices edges zones) }
 {
-    at_most(
-        HELD_VERTICES,
-        HELD_EDGES,
-        HELD_ZONES,
-        vertices,
-        edges,
-        zones,
-    )
+    let most = Most {
+        vertices: HELD_VERTICES,
+        edges: HELD_EDGES,
+        zones: HELD_ZONES,
+    };
+    at_most(most, vertices, edges, zones)
 }
 
-// At most v vertices, m edges and n zones, and one zone or more.
-fn at_most(v: usize, m: usize, n: usize, vertices: usize, edges: usize, zones: u32) -> bool
-    ensures { result ≡ holds (counts_within_under (count_limits v m n) vertices edges zones) }
+// No more vertices, edges and zones than `most`, and one zone or more.
+fn at_most(most: Most, vertices: usize, edges: usize, zones: u32) -> bool
+    ensures { result ≡ holds (counts_within_under (count_limits most.vertices most.edges most.zones) vertices edges zones) }
 {
-    if v < vertices {
-        return false;
-    }
-    if m < edges {
-        return false;
-    }
-    if zones < 1 {
-        return false;
-    }
-    zones as usize <= n
+    vertices <= most.vertices && edges <= most.edges && 1 <= zones && zones as usize <= most.zones
 }

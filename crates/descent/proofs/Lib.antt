@@ -1,3 +1,3 @@
--- Laws of the descent's steps and of its loop, a file a subject.
-pub mod Descending
+-- Laws of the descent of the quick search.
 pub mod Steps
+pub mod Descending

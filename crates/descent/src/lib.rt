@@ -1,23 +1,27 @@
 // The published descent over the words of a lent index, each judged as it is read.
 #![tactic(auto)]
 
-ghost use Rattle.std.specs.Prelude.{◌≡◌, List, ℕ, ◌+◌, ◌-◌, ◌≤◌, ◌<◌, ◌/◌, pos, length, take};
-ghost use Rattle.subdivision.specs.declared.Answer.{Answer};
-ghost use Rattle.subdivision.specs.Limits.{max_edges, max_zones, max_examined};
-ghost use Rattle.subdivision.specs.Formula.{both, is_equal, holds};
-ghost use Rattle.subdivision.specs.Dyadic.{bits, top_bit, low_bit};
-ghost use Rattle.subdivision.specs.Sheet.{sheet_of};
-ghost use Rattle.subdivision.specs.Descent.{examined, examine, turn, index_look_ups, index_descent};
+ghost use Rattle.std.specs.Prelude.{◌≡◌, List, ℕ, ◌+◌, ◌-◌, ◌≤◌, ◌<◌, ◌/◌, length, take};
+ghost use Rattle.subdivision.specs.Results.{examined_of};
+ghost use Rattle.subdivision.specs.Limits.{max_zones, max_edges};
+ghost use Rattle.subdivision.specs.Dyadic.{top_bit, low_bit};
+ghost use Rattle.subdivision.specs.Descent.{examined, examine, turn};
 ghost use Rattle.tables.specs.Known.{EndsKnown};
-ghost use Rattle.probes.specs.Margins.{sheet_at};
-ghost use Rattle.descent.specs.Steps.{state_of, passed, turn_of, Counted, answer_on, arrived_found, found_by, trail_of};
+ghost use Rattle.probes.specs.Asked.{asked, looked_up};
+ghost use Rattle.descent.specs.Steps.{state_of, passed, turn_of, Counted, answer_on, arrived_found, found_by, trail_of, descent_asked};
 
 use geometry::lines::side;
 use numbers::dyadic::{low_bit, top_bit};
-use probes::chains::probe;
-use probes::words::{place_of, places_sound, start_of, starts_sound, zone_at};
-use subdivision::{Answer, Found, MAX_EXAMINED, Probed, Side};
-use tables::{known_above, known_below, known_segment, segment};
+use probes::Query;
+use probes::words::{places_sound, starts_sound};
+use subdivision::{Answer, Found, MAX_EXAMINED, Probed, Refused, Side};
+use tables::{known_above, known_below};
+
+// The refusal of a word of the index that is at fault.
+const DAMAGED: Refused = Refused {
+    number: 22,
+    item: 0,
+};
 
 // The state of a descent: the places i and j, the chain k, and the numbers of edges examined and of probes.
 #[derive(Clone, Copy)]
@@ -29,7 +33,7 @@ pub struct Descent {
     pub probes: u32,
 }
 
-// What a step of a descent leads to.
+// What a step of a descent leads to; there is none where a word of the index is at fault.
 #[derive(Clone, Copy)]
 pub enum Step {
     // To a son; no edge is examined.
@@ -38,20 +42,19 @@ pub enum Step {
     Past(u32, Descent),
     // To an examined edge on which the point lies.
     On(u32, Descent),
-    // To a word of the index that is at fault.
-    Damaged,
 }
 
 impl Descent {
     // A descent begins at i = 0, j = n - 1, k = the top bit of n - 1, with nothing counted.
-    fn new(zones: u32) -> Descent
-        requires { 1 ≤ zones }
-        ensures { result ≡ record { i = 0; j = zones - 1; k = top_bit (zones - 1); examined = 0; probes = 0 } }
+    fn new(query: &Query) -> Descent
+        requires { 1 ≤ query.now.zones }
+        ensures { result ≡ record { i = 0; j = query.now.zones - 1; k = top_bit (query.now.zones - 1); examined = 0; probes = 0 } }
     {
+        let last = query.zones - 1;
         Descent {
             i: 0,
-            j: zones - 1,
-            k: top_bit(zones - 1),
+            j: last,
+            k: top_bit(last),
             examined: 0,
             probes: 0,
         }
@@ -59,222 +62,149 @@ impl Descent {
 
     // To the left son.
     fn left(self) -> Descent
-        ensures { result ≡ record { i = self.i; j = self.j; k = self.k - low_bit self.k / 2; examined = self.examined; probes = self.probes } }
+        ensures { result ≡ record self { k = self.k - low_bit self.k / 2 } }
     {
         Descent {
-            i: self.i,
-            j: self.j,
             k: self.k - low_bit(self.k) / 2,
-            examined: self.examined,
-            probes: self.probes,
+            ..self
         }
     }
 
     // To the right son.
     fn right(self) -> Descent
         requires { self.k ≤ max_zones }
-        ensures { result ≡ record { i = self.i; j = self.j; k = self.k + low_bit self.k / 2; examined = self.examined; probes = self.probes } }
+        ensures { result ≡ record self { k = self.k + low_bit self.k / 2 } }
     {
         Descent {
-            i: self.i,
-            j: self.j,
             k: self.k + low_bit(self.k) / 2,
-            examined: self.examined,
-            probes: self.probes,
+            ..self
         }
     }
 
     // At an examined edge, with i and j as they become there.
     fn at_edge(self, i: u32, j: u32, probes: u32) -> Descent
         requires { self.examined < max_zones }
-        ensures { result ≡ record { i = i; j = j; k = self.k; examined = self.examined + 1; probes = probes } }
+        ensures { result ≡ record self { i = i; j = j; examined = self.examined + 1; probes = probes } }
     {
         Descent {
-            i: i,
-            j: j,
-            k: self.k,
+            i,
+            j,
             examined: self.examined + 1,
-            probes: probes,
+            probes,
+            ..self
         }
     }
 
-    // Past edge e, with i and j as they become there; they may not pass each other.
-    fn past_edge(self, e: u32, i: u32, j: u32, probes: u32) -> Step
+    // Past the edge found, with i and j as they become there; they may not pass each other.
+    fn past_edge(self, found: Probed, i: u32, j: u32) -> Option<Step>
         requires { self.examined < max_zones }
-        ensures { result ≡ passed self e i j probes }
+        ensures { result ≡ passed self found.edge i j found.probes }
     {
         if j < i {
-            return Step::Damaged;
+            return None;
         }
-        Step::Past(e, self.at_edge(i, j, probes))
+        Some(Step::Past(found.edge, self.at_edge(i, j, found.probes)))
     }
 
-    // Examines edge e of chain k, which is there with its vertices, with the probes made to find it: its
-    // places are judged, then its side gives the next i or j.
-    fn examine_edge(
-        self,
-        vertices: &[i32],
-        edges: &[u32],
-        zones: u32,
-        index: &[u32],
-        e: u32,
-        probes: u32,
-        x: u32,
-        y: u32,
-    ) -> Step
-        requires { (self.examined < max_zones) × EndsKnown vertices.now edges.now e }
-        ensures turned { (trail : List ℕ) → turn_of (sheet_of (pos 0) (pos 0) vertices.now edges.now zones) x y trail result ≡ examined (sheet_of (pos 0) (pos 0) vertices.now edges.now zones) (index_look_ups (sheet_of (pos 0) (pos 0) vertices.now edges.now zones) index.now) x y (state_of self trail) e probes }
+    // Examines the edge that the probes of chain k find, which is there with its vertices: its places are judged, then its side gives the
+    // next i or j.
+    fn examine_edge(self, query: &Query, found: Probed) -> Option<Step>
+        requires { (self.examined < max_zones) × EndsKnown query.now.tables.vertices.now query.now.tables.edges.now found.edge }
+        ensures turned { (trail : List ℕ) → turn_of (asked query.now) query.now.x query.now.y trail result ≡ examined (asked query.now) (looked_up query.now) query.now.x query.now.y (state_of self trail) found.edge found.probes }
         ensures counted { Counted self result }
     {
-        let below = place_of(index, zones, known_below(edges, e));
-        let above = place_of(index, zones, known_above(edges, e));
-        if !places_sound(zones, below, self.k, above) {
-            return Step::Damaged;
+        let e = found.edge;
+        let below = query.place_of(known_below(query.tables.edges, e));
+        let above = query.place_of(known_above(query.tables.edges, e));
+        if !places_sound(query.zones, below, self.k, above) {
+            return None;
         }
-        match side(known_segment(vertices, edges, e), x, y) {
-            Side::On => Step::On(e, self.at_edge(self.i, self.j, probes)),
-            Side::Above => self.past_edge(e, above, self.j, probes),
-            Side::Below => self.past_edge(e, self.i, below, probes),
+        match side(query.tables.known_segment(e), query.x, query.y) {
+            Side::On => Some(Step::On(e, self.at_edge(self.i, self.j, found.probes))),
+            Side::Above => self.past_edge(found, above, self.j),
+            Side::Below => self.past_edge(found, self.i, below),
         }
     }
 
     // Examines chain k: its starts are judged, then its probes find the edge that covers x.
-    fn examine_chain(
-        self,
-        west: u32,
-        east: u32,
-        vertices: &[i32],
-        edges: &[u32],
-        zones: u32,
-        index: &[u32],
-        x: u32,
-        y: u32,
-    ) -> Step
-        requires { ((self.k ≤ max_zones) × (length edges.now / 4 ≤ max_edges)) × ((self.examined < max_zones) × (self.probes ≤ 2147483648)) }
-        ensures turned { (trail : List ℕ) → turn_of (sheet_at west east vertices.now edges.now zones) x y trail result ≡ examine (sheet_at west east vertices.now edges.now zones) (index_look_ups (sheet_at west east vertices.now edges.now zones) index.now) x y (state_of self trail) }
+    fn examine_chain(self, query: &Query) -> Option<Step>
+        requires { ((self.k ≤ max_zones) × (length query.now.tables.edges.now / 4 ≤ max_edges)) × ((self.examined < max_zones) × (self.probes ≤ 2147483648)) }
+        ensures turned { (trail : List ℕ) → turn_of (asked query.now) query.now.x query.now.y trail result ≡ examine (asked query.now) (looked_up query.now) query.now.x query.now.y (state_of self trail) }
         ensures counted { Counted self result }
     {
-        let from = start_of(index, zones, self.k);
-        let to = start_of(index, zones, self.k + 1);
-        if !starts_sound(from, to, (edges.len() / 4) as u32) {
-            return Step::Damaged;
+        let from = query.start_of(self.k);
+        let to = query.start_of(self.k + 1);
+        if !starts_sound(from, to, query.tables.edge_count() as u32) {
+            return None;
         }
-        match probe(
-            west,
-            east,
-            vertices,
-            edges,
-            zones,
-            index,
-            from,
-            to,
-            x,
-            self.probes,
-        ) {
-            Probed::Missing => Step::Damaged,
-            Probed::Covered(e, probes) => self.examine_edge(
-                vertices, edges, zones, index, e, probes, x, y,
-            ),
-        }
+        let found = query.probe(from, to, self.probes)?;
+        self.examine_edge(query, found)
     }
 
     // One step while i < j: to the left son if k > j, to the right son if k <= i, else chain k is examined.
-    fn step(
-        self,
-        west: u32,
-        east: u32,
-        vertices: &[i32],
-        edges: &[u32],
-        zones: u32,
-        index: &[u32],
-        x: u32,
-        y: u32,
-    ) -> Step
+    fn step(self, query: &Query) -> Option<Step>
+        requires edges_len_bound { (length query.now.tables.edges.now / 4 ≤ max_edges) × ((self.examined < max_zones) × (self.probes ≤ 2147483648)) }
         requires i_lt_j { (self.i < self.j) × (self.j ≤ max_zones) }
-        requires edges_len_bound { (length edges.now / 4 ≤ max_edges) × ((self.examined < max_zones) × (self.probes ≤ 2147483648)) }
-        ensures turned { (trail : List ℕ) → turn_of (sheet_at west east vertices.now edges.now zones) x y trail result ≡ turn (sheet_at west east vertices.now edges.now zones) (index_look_ups (sheet_at west east vertices.now edges.now zones) index.now) x y (state_of self trail) }
+        ensures turned { (trail : List ℕ) → turn_of (asked query.now) query.now.x query.now.y trail result ≡ turn (asked query.now) (looked_up query.now) query.now.x query.now.y (state_of self trail) }
         ensures counted { Counted self result }
     {
         if self.j < self.k {
-            return Step::Son(self.left());
+            return Some(Step::Son(self.left()));
         }
         if self.k <= self.i {
-            return Step::Son(self.right());
+            return Some(Step::Son(self.right()));
         }
-        self.examine_chain(west, east, vertices, edges, zones, index, x, y)
+        self.examine_chain(query)
+    }
+
+    // At i = j: the zone at that place, which is judged.
+    fn arrive(self, query: &Query) -> Result<Found, Refused>
+        ensures { result ≡ arrived_found query.now.zones query.now.index.now self }
+    {
+        let z = query.zone_at(self.i);
+        if query.zones <= z {
+            return Err(DAMAGED);
+        }
+        Ok(self.found(Answer::Zone(z)))
+    }
+
+    // What is found where the descent ends, with its counts.
+    fn found(self, answer: Answer) -> Found
+        ensures { result ≡ record { answer = answer; examined = self.examined; probes = self.probes } }
+    {
+        Found {
+            answer,
+            examined: self.examined,
+            probes: self.probes,
+        }
     }
 }
 
 // On an examined edge: the vertex if the point is one of its ends, else the edge.
-fn answer_on(vertices: &[i32], edges: &[u32], e: u32, x: u32, y: u32) -> Answer
-    ensures { result ≡ answer_on vertices.now edges.now x y e }
+fn answer_on(query: &Query, e: u32) -> Answer
+    ensures { result ≡ answer_on query.now.tables.vertices.now query.now.tables.edges.now query.now.x query.now.y e }
 {
-    let g = segment(vertices, edges, e);
-    if is_point(g.xw, g.yw, x, y) {
+    let g = query.tables.segment(e);
+    let point = (query.x, query.y);
+    if (g.xw, g.yw) == point {
         return Answer::Vertex(g.west);
     }
-    if is_point(g.xe, g.ye, x, y) {
+    if (g.xe, g.ye) == point {
         return Answer::Vertex(g.east);
     }
     Answer::Edge(e)
 }
 
-// Whether two points are the same.
-fn is_point(px: u32, py: u32, x: u32, y: u32) -> bool
-    ensures { result ≡ holds (both (is_equal px x) (is_equal py y)) }
+// Descends for the point asked, and leaves the edges examined, in order, at the front of `trail`.
+pub fn descend(query: &Query, trail: &mut [u32; MAX_EXAMINED]) -> Result<Found, Refused>
+    requires { ((1 ≤ query.now.zones) × (query.now.zones ≤ max_zones)) × (length query.now.tables.edges.now / 4 ≤ max_edges) }
+    ensures found { result ≡ found_by (descent_asked query.now) }
+    ensures listed { take (examined_of result) trail.new ≡ trail_of (descent_asked query.now) }
 {
-    if px != x {
-        return false;
-    }
-    py == y
-}
-
-// A refused search: both counts 0.
-pub fn refused(number: u32, item: u32) -> Found
-    ensures { result ≡ record { answer = Answer.Refused number item; examined = 0; probes = 0 } }
-{
-    Found {
-        answer: Answer::Refused(number, item),
-        examined: 0,
-        probes: 0,
-    }
-}
-
-// At i = j: the zone at that place, which is judged.
-fn arrive(zones: u32, index: &[u32], d: Descent) -> Found
-    ensures { result ≡ arrived_found zones index.now d }
-{
-    let z = zone_at(index, zones, d.i);
-    if zones <= z {
-        return refused(22, 0);
-    }
-    Found {
-        answer: Answer::Zone(z),
-        examined: d.examined,
-        probes: d.probes,
-    }
-}
-
-// Descends for the point (x, y), and leaves the edges examined, in order, at the front of `trail`.
-pub fn descend(
-    west: u32,
-    east: u32,
-    vertices: &[i32],
-    edges: &[u32],
-    zones: u32,
-    index: &[u32],
-    x: u32,
-    y: u32,
-    trail: &mut [u32; MAX_EXAMINED],
-) -> Found
-    requires le_zones { ((1 ≤ zones) × (zones ≤ max_zones)) × (length edges.now / 4 ≤ max_edges) }
-    requires zones_in_bounds { bits (zones - 1) ≤ max_examined }
-    ensures found { result ≡ found_by (index_descent (sheet_at west east vertices.now edges.now zones) index.now x y) }
-    ensures listed { take result.examined trail.new ≡ trail_of (index_descent (sheet_at west east vertices.now edges.now zones) index.now x y) }
-{
-    let mut d = Descent::new(zones);
+    let mut d = Descent::new(query);
+    // The places i and j meet, so that no index counts.
     while d.i < d.j {
-        match d.step(west, east, vertices, edges, zones, index, x, y) {
+        match d.step(query).ok_or(DAMAGED)? {
             Step::Son(next) => d = next,
             Step::Past(e, next) => {
                 trail[d.examined as usize] = e;
@@ -282,14 +212,9 @@ pub fn descend(
             }
             Step::On(e, last) => {
                 trail[d.examined as usize] = e;
-                return Found {
-                    answer: answer_on(vertices, edges, e, x, y),
-                    examined: last.examined,
-                    probes: last.probes,
-                };
+                return Ok(last.found(answer_on(query, e)));
             }
-            Step::Damaged => return refused(22, 0),
         }
     }
-    arrive(zones, index, d)
+    d.arrive(query)
 }

@@ -1,5 +1,6 @@
 // The C ABI: the calls for tests and for programs in other languages. A `&[T]` is a pointer and
-// then a length. What a caller owes (valid pointers, no overlap) no proof covers.
+// then a length. What a caller owes (valid pointers, no overlap) no proof covers. C lends each table by itself, so that the words of
+// a sheet stand side by side here, and nowhere above.
 #![tactic(auto)]
 
 ghost use Rattle.std.specs.Prelude.{◌≡◌};
@@ -10,13 +11,39 @@ ghost use Rattle.frames.specs.Answers.{page_values, written_values};
 ghost use Rattle.frames.specs.Pages.{read_page};
 ghost use Rattle.frames.specs.Texts.{write_page};
 ghost use Rattle.frames.specs.Placing.{place_page};
+ghost use Rattle.tables.specs.Lent.{lent};
 ghost use Rattle.ledger.specs.Answers.{month_values};
 ghost use Rattle.ledger.specs.Months.{samples_of, lent_of, month_of};
 
-use frames::{Page, Written};
 use hexadecimal::signs::word_of;
-use ledger::Month;
-use subdivision::{Answer, Verdict};
+use months::judge_month;
+use opening::open_sheet;
+use pages::read_page;
+use placing::place_page;
+use reading::read_point;
+use search::search_point;
+use subdivision::Answer;
+use tables::{LentSheet, Tables};
+use tallies::LentSamples;
+use writer::write_page;
+
+// The sheet of lent words.
+fn lent<'a>(
+    west: i32,
+    east: i32,
+    vertices: &'a [i32],
+    edges: &'a [u32],
+    zones: u32,
+) -> LentSheet<'a>
+    ensures { lent result ≡ sheet_of west east vertices.entry.now edges.entry.now zones }
+{
+    LentSheet {
+        west,
+        east,
+        tables: Tables { vertices, edges },
+        zones,
+    }
+}
 
 // Opens a sheet: `out` is the refusal's number and the item that it names, 0 0 where the sheet is
 // opened; then the first 3n + m + 1 words of `index` are its index.
@@ -33,10 +60,10 @@ pub extern "C" fn tw_open(
     ensures verdict { out.new ≡ verdict_values (opening (sheet_of west east vertices.now edges.now zones) index.old).verdict }
     ensures words { index.new ≡ (opening (sheet_of west east vertices.now edges.now zones) index.old).index }
 {
-    match opening::open_sheet(west, east, vertices, edges, zones, index) {
-        Verdict::Passed => *out = [0, 0],
-        Verdict::Refused(number, item) => *out = [number, item],
-    }
+    *out = match open_sheet(lent(west, east, vertices, edges, zones), index) {
+        Ok(()) => [0, 0],
+        Err(refusal) => [refusal.number, refusal.item],
+    };
 }
 
 // Reads a point by the plain reading: `out` is the kind (0 refused, 1 vertex, 2 edge, 3 zone), its
@@ -54,12 +81,12 @@ pub extern "C" fn tw_read(
 )
     ensures { out.new ≡ answer_values (reading (sheet_of west east vertices.now edges.now zones) x y) }
 {
-    match reading::read_point(west, east, vertices, edges, zones, x, y) {
-        Answer::Vertex(v) => *out = [1, v, 0],
-        Answer::Edge(e) => *out = [2, e, 0],
-        Answer::Zone(z) => *out = [3, z, 0],
-        Answer::Refused(number, item) => *out = [0, number, item],
-    }
+    *out = match read_point(lent(west, east, vertices, edges, zones), x, y) {
+        Ok(Answer::Vertex(v)) => [1, v, 0],
+        Ok(Answer::Edge(e)) => [2, e, 0],
+        Ok(Answer::Zone(z)) => [3, z, 0],
+        Err(refusal) => [0, refusal.number, refusal.item],
+    };
 }
 
 // Searches for a point by the words of an index: `out` is the kind (0 refused, 1 vertex, 2 edge, 3
@@ -81,14 +108,14 @@ pub extern "C" fn tw_search(
     ensures found { out.new ≡ found_values (searching (sheet_of west east vertices.now edges.now zones) index.now x y trail.old).found }
     ensures listed { trail.new ≡ (searching (sheet_of west east vertices.now edges.now zones) index.now x y trail.old).trail }
 {
-    let found = search::search_point(west, east, vertices, edges, zones, index, x, y, trail);
-    let answer = found.answer;
-    match answer {
-        Answer::Vertex(v) => *out = [1, v, 0, found.examined, found.probes],
-        Answer::Edge(e) => *out = [2, e, 0, found.examined, found.probes],
-        Answer::Zone(z) => *out = [3, z, 0, found.examined, found.probes],
-        Answer::Refused(number, item) => *out = [0, number, item, found.examined, found.probes],
-    }
+    *out = match search_point(lent(west, east, vertices, edges, zones), index, x, y, trail) {
+        Ok(found) => match found.answer {
+            Answer::Vertex(v) => [1, v, 0, found.examined, found.probes],
+            Answer::Edge(e) => [2, e, 0, found.examined, found.probes],
+            Answer::Zone(z) => [3, z, 0, found.examined, found.probes],
+        },
+        Err(refusal) => [0, refusal.number, refusal.item, 0, 0],
+    };
 }
 
 // Reads a page of frames: `out` is the refusal's number and the line that it names, 0 0 where the page is good; then W and E as
@@ -106,23 +133,19 @@ pub extern "C" fn tw_read_page(
     ensures edges { edges.new ≡ (read_page page.now vertices.old edges.old points.old).edges }
     ensures points { points.new ≡ (read_page page.now vertices.old edges.old points.old).points }
 {
-    match pages::read_page(page, vertices, edges, points) {
-        Page::Refused(number, line) => *out = [number as u64, line as u64, 0, 0, 0, 0, 0, 0],
-        Page::Sheet(head, count) => {
-            let west = word_of(head.west) as u64;
-            let east = word_of(head.east) as u64;
-            *out = [
-                0,
-                0,
-                west,
-                east,
-                head.vertices as u64,
-                head.edges as u64,
-                head.zones as u64,
-                count as u64,
-            ]
-        }
-    }
+    *out = match read_page(page, vertices, edges, points) {
+        Ok(read) => [
+            0,
+            0,
+            word_of(read.head.west) as u64,
+            word_of(read.head.east) as u64,
+            read.head.vertices as u64,
+            read.head.edges as u64,
+            read.head.zones as u64,
+            read.points as u64,
+        ],
+        Err(refusal) => [refusal.number as u64, refusal.line as u64, 0, 0, 0, 0, 0, 0],
+    };
 }
 
 // Writes a sheet with its points as a page of frames to the front of `text`: `out` is the refusal's number, 0 where the page is
@@ -141,10 +164,10 @@ pub extern "C" fn tw_write_page(
     ensures written { out.new ≡ written_values (write_page (sheet_of west east vertices.now edges.now zones) points.now text.old).written }
     ensures text { text.new ≡ (write_page (sheet_of west east vertices.now edges.now zones) points.now text.old).text }
 {
-    match writer::write_page(west, east, vertices, edges, zones, points, text) {
-        Written::Refused(number) => *out = [number as u64, 0],
-        Written::Text(count) => *out = [0, count as u64],
-    }
+    *out = match write_page(lent(west, east, vertices, edges, zones), points, text) {
+        Ok(count) => [0, count as u64],
+        Err(refusal) => [refusal.number as u64, 0],
+    };
 }
 
 // Writes what the program prints for a page of frames to the front of `text`: `out` is the refusal's number, 0 where there is none,
@@ -154,10 +177,10 @@ pub extern "C" fn tw_place_page(page: &[u8], text: &mut [u8], out: &mut [u64; 2]
     ensures written { out.new ≡ written_values (place_page page.now text.old).written }
     ensures text { text.new ≡ (place_page page.now text.old).text }
 {
-    match placing::place_page(page, text) {
-        Written::Refused(refusal) => *out = [refusal as u64, 0],
-        Written::Text(length) => *out = [0, length as u64],
-    }
+    *out = match place_page(page, text) {
+        Ok(length) => [0, length as u64],
+        Err(refused) => [refused.number as u64, 0],
+    };
 }
 
 // Judges a month: `out` is the refusal's number and the item that it names, 0 0 where the month is judged; then the numbers of taken
@@ -184,11 +207,16 @@ pub extern "C" fn tw_month(
     ensures month { out.new ≡ month_values (month_of (sheet_of west east vertices.now edges.now zones) index.now (samples_of points.now kinds.now values.now) permits.now (lent_of boundary.old off.old results.old means.old)).month }
     ensures left { lent_of boundary.new off.new results.new means.new ≡ (month_of (sheet_of west east vertices.now edges.now zones) index.now (samples_of points.now kinds.now values.now) permits.now (lent_of boundary.old off.old results.old means.old)).lent }
 {
-    match months::judge_month(
-        west, east, vertices, edges, zones, index, points, kinds, values, permits, boundary, off,
-        results, means,
+    let samples = LentSamples {
+        points,
+        kinds,
+        values,
+    };
+    let sheet = lent(west, east, vertices, edges, zones);
+    *out = match judge_month(
+        sheet, index, samples, permits, boundary, off, results, means,
     ) {
-        Month::Judged(on, away) => *out = [0, 0, on, away],
-        Month::Refused(number, item) => *out = [number, item, 0, 0],
-    }
+        Ok(listed) => [0, 0, listed.boundary, listed.off],
+        Err(refused) => [refused.number, refused.item, 0, 0],
+    };
 }

@@ -2,27 +2,17 @@
 use mathlib.Core.Path.{◌≡◌, ap, ◌∙◌}
 use mathlib.Core.Bool.{Bool}
 use mathlib.Core.List.{List}
-use Prim.Native.Nat.{ℕ, suc, ◌+◌, ◌-◌, ◌<◌, ◌≤◌, ◌/◌}
+use Prim.Native.Nat.{ℕ, suc, ◌+◌, ◌-◌, ◌<◌, ◌≤◌}
 use native.Mathlib.Numerals.{add-one}
 use native.Mathlib.Omega.{arith}
 use lib.IntN.{ℤ}
 use lib.ListN.{length, get_or, take, drop}
-use Rattle.subdivision.specs.Lists.{tab}
-use Rattle.subdivision.specs.Order.{SortedBelow, in_order}
+use Rattle.subdivision.specs.Order.{SortedBelow}
 use Rattle.subdivision.specs.Sheet.{vertex_x, vertex_y}
 use Rattle.theory.proofs.Groups.{pair_key, group_start, group_start_le, group_start_rises}
-use Rattle.theory.proofs.Lists.{length_tab, get_d_tab}
+use Rattle.theory.proofs.Lists.{get_d_tab}
 use Rattle.theory.proofs.Order.{sorted_below}
 use Rattle.fans.specs.Fans.{fan_key, fan_order, fan_of, AreFans, point_order}
-
--- an order of all edges and its starts are the fans
-pub are_fans : (edges : List ℕ) (eastern : Bool) (n m : ℕ) {order starts : List ℕ} → order ≡ in_order (fan_key edges eastern) n
-    → starts ≡ tab (group_start (fan_key edges eastern) (in_order (fan_key edges eastern) n)) m → n ≡ length edges / 4
-    → AreFans edges eastern order starts × (length starts ≡ m)
-are_fans edges eastern n m {order} {starts} p q e = ((rw e at p, rw (long, ← e) q), long)
-  where
-    long : length starts ≡ m
-    long = ap length q ∙ length_tab (group_start (fan_key edges eastern) (in_order (fan_key edges eastern) n)) m
 
 -- the vertices in order are as many, and each is one of them
 pub points_below : (vertices : List ℤ) (n : ℕ) {points : List ℕ} → points ≡ point_order vertices n

@@ -1,5 +1,4 @@
 -- That the order tests over lists of edges decide rule 5, and the steps of the functions that make them, a file a subject.
-pub mod BothDrawn
 pub mod Ends
 pub mod FanLists
 pub mod FanTables

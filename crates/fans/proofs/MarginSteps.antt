@@ -1,32 +1,31 @@
--- Rule 5 on the margin for two vertices: where one is off it, and where both are on it.
-use mathlib.Core.Path.{◌≡◌}
-use mathlib.Core.Bool.{true, false, not}
-use mathlib.Core.List.{List}
-use Prim.Native.Nat.{ℕ}
-use lib.IntN.{ℤ}
-use Rattle.subdivision.specs.Formula.{Formula, is_equal, both, not_so, holds}
-use Rattle.subdivision.specs.Sheet.{vertex_x}
-use Rattle.theory.proofs.Decide.{held, fails}
-use Rattle.fans.specs.Fans.{fan_of, margin_tied, fault_between}
-use Rattle.theory.proofs.Choices.{first_choice}
+-- One step along the vertices in order: the least vertex at fault so far, with one place more.
+use Rattle.std.proofs.Common.{◌≡◌, ℕ, suc, ◌+◌, ◌-◌, ◌≤◌, Bool, min, true, false, List, ℤ, get_or, ap, ◌∙◌, arith}
+use Rattle.theory.proofs.Lowest.{least_of, least_with, least_without}
+use Rattle.fans.specs.Fans.{fault_between, margin_fault}
 
-module _ (west : ℕ) (vertices : List ℤ) (edges : List ℕ) (under over : ℕ) where
-  -- the two vertices are on the margin
-  abbrev on_margin : Formula
-  on_margin = both (is_equal (vertex_x vertices under) west) (is_equal (vertex_x vertices over) west)
+module _ (west : ℕ) (vertices : List ℤ) (edges points : List ℕ) (count : ℕ) where
+  -- the least vertex at fault over the first i places
+  abbrev pub least_fault : ℕ → ℕ
+  least_fault i = least_of (margin_fault west vertices edges points) (λ k. get_or points k 0) i count
 
-  -- their fans are tied
-  abbrev fans_meet : Formula
-  fans_meet = margin_tied vertices edges (fan_of edges true under) (fan_of edges true over)
+  module _ (i : ℕ) (h : 1 ≤ i) where
+    -- the vertices at the place before i and at i are at fault
+    abbrev pub fault_at_last : Bool
+    fault_at_last = fault_between west vertices edges (get_or points (i - 1) 0) (get_or points i 0)
 
-  -- no fault where the lower vertex is off the margin
-  pub under_off : (vertex_x vertices under ≡ west → ⊥) → fault_between west vertices edges under over ≡ false
-  under_off off = fails (both on_margin (not_so fans_meet)) (λ m. off m.0.0)
+    same_fault : margin_fault west vertices edges points (i - 1) ≡ fault_at_last
+    same_fault =
+        let next : suc (i - 1) ≡ i = omega arith in
+        ap (λ (k : ℕ). fault_between west vertices edges (get_or points (i - 1) 0) (get_or points k 0)) next
 
-  -- no fault where the upper vertex is off the margin
-  pub over_off : (vertex_x vertices over ≡ west → ⊥) → fault_between west vertices edges under over ≡ false
-  over_off off = fails (both on_margin (not_so fans_meet)) (λ m. off m.0.1)
+    -- where they are, the lower one counts
+    pub least_with_last : fault_at_last ≡ true → least_fault (i + 1 - 1) ≡ min (get_or points (i - 1) 0) (least_fault (i - 1))
+    least_with_last e =
+        let next : i + 1 - 1 ≡ i - 1 + 1 = omega arith in
+        rw next (least_with (margin_fault west vertices edges points) (λ k. get_or points k 0) count (i - 1) (same_fault ∙ e))
 
-  -- where both are on it, a fault is that their fans are not tied
-  pub both_on : vertex_x vertices under ≡ west → vertex_x vertices over ≡ west → fault_between west vertices edges under over ≡ not (holds fans_meet)
-  both_on p q = first_choice (holds on_margin) (not (holds fans_meet)) false (held on_margin (p, q))
+    -- where they are not, the least stays
+    pub least_without_last : fault_at_last ≡ false → least_fault (i + 1 - 1) ≡ least_fault (i - 1)
+    least_without_last e =
+        let next : i + 1 - 1 ≡ i - 1 + 1 = omega arith in
+        rw next (least_without (margin_fault west vertices edges points) (λ k. get_or points k 0) count (i - 1) (same_fault ∙ e))

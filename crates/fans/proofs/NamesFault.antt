@@ -77,6 +77,7 @@ module _ (s : Sheet) (rule1 : Rule1 s) (rule2 : Rule2 s) (rule4 : Rule4 s) where
 
   -- a vertex breaks rule 5 where it breaks it at its own fans, or on the margin
   names_broken : (v : ℕ) → not (holds (names_agree s v)) ≡ either_of (vertex_fault s.vertices s.edges v) (not (holds (margin_names s v)))
+  unfolding vertex_fault
   names_broken v =
       rw (vertex_tied_decides s rule2 rule4 v (fan_of s.edges false v) (fan_of s.edges true v) (fan_of_list s false v) (fan_of_list s true v))
       (regrouped (holds (both (western_names s v) (eastern_names s v))) (holds (tops_and_bottoms s v)) (holds (margin_names s v)))

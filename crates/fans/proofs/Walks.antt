@@ -1,73 +1,36 @@
--- One step along a fan: to the furthest edge, and to the next edge up.
-use mathlib.Core.Path.{◌≡◌, refl, sym, ◌∙◌}
-use mathlib.Core.Bool.{Bool, true, false}
-use mathlib.Core.List.{List, [], ◌∷◌}
-use Prim.Native.Nat.{ℕ, suc, ◌+◌, ◌<◌}
-use native.Mathlib.Numerals.{add-one}
-use native.Mathlib.Omega.{arith}
-use lib.Dec.{eqb}
-use lib.IntN.{ℤ}
-use lib.ListN.{length, get_or, drop}
-use lib.Seq.{drop-cons}
-use borrow.Author.Tests.{eq-eqb, ne_eqb}
-use Rattle.fans.specs.Fans.{is_under, goes_on, furthest_from, furthest, nearer}
-use Rattle.theory.proofs.Choices.{first_choice, second_choice}
+-- Walks along a fan by the library's `fold` and `all`: to the furthest edge, to the next edge up, and past every edge.
+use Rattle.std.proofs.Common.{◌≡◌, ℕ, ◌<◌, Bool, true, false, List, [], ◌∷◌, length, get_or, ℤ, refl, sym, ◌∙◌, arith}
+use Rattle.std.specs.List.{fold, AllWithin, HoldsAt}
+use Rattle.std.specs.Bool.{MatchBool}
+use Rattle.subdivision.specs.Formula.{Formula, every_below, holds}
+use Rattle.theory.proofs.Decide.{denies, fails, yes_every}
+use Rattle.fans.specs.Fans.{goes_on, furthest_from, nearer, next_from}
 
 module _ (vertices : List ℤ) (edges : List ℕ) (eastern : Bool) where
-  -- the furthest edge of no fan is 0
-  pub furthest_none : (up : Bool) (fan : List ℕ) → length fan ≡ 0 → furthest vertices edges eastern up fan ≡ 0
-  furthest_none up [] h = refl
-  furthest_none up (e ∷ es) h = omega arith
+  -- the further of two edges up or down a fan
+  abbrev pub further : Bool → ℕ → ℕ → ℕ
+  further up best e = elim (goes_on vertices edges eastern up best e) [ true ↦ e | false ↦ best ]
 
-  module _ (up : Bool) (fan : List ℕ) (i best : ℕ) (here : i < length fan) where
-    -- the walk from place i on, where `best` is the furthest so far
-    abbrev rest : ℕ
-    rest = furthest_from vertices edges eastern up best (drop i fan)
+  -- the furthest edge is what the further of two gives along the fan
+  pub fold_furthest : (up : Bool) (best : ℕ) (fan : List ℕ) → fold (further up) best fan ≡ furthest_from vertices edges eastern up best fan
+  fold_furthest up best [] = refl
+  fold_furthest up best (e ∷ es) = fold_furthest up (further up best e) es ∙ from (goes_on vertices edges eastern up best e)
+    where
+      from : (b : Bool) → furthest_from vertices edges eastern up (elim b [ true ↦ e | false ↦ best ]) es
+          ≡ elim b [ true ↦ furthest_from vertices edges eastern up e es | false ↦ furthest_from vertices edges eastern up best es ]
+      from true = refl
+      from false = refl
 
-    -- the walk past place i, from its edge
-    abbrev moved : ℕ
-    moved = furthest_from vertices edges eastern up (get_or fan i 0) (drop (suc i) fan)
+  -- the next edge up is what the nearer of two gives along the fan
+  pub fold_next : (e best : ℕ) (fan : List ℕ) → fold (nearer vertices edges eastern e) best fan ≡ next_from vertices edges eastern e best fan
+  fold_next e best [] = refl
+  fold_next e best (f ∷ fs) = fold_next e (nearer vertices edges eastern e best f) fs
 
-    -- the walk past place i, from `best`
-    abbrev passed : ℕ
-    passed = furthest_from vertices edges eastern up best (drop (suc i) fan)
-
-    -- an edge that goes before the furthest so far is the furthest
-    pub furthest_moves : (next : ℕ) → goes_on vertices edges eastern up best (get_or fan i 0) ≡ true → next ≡ get_or fan i 0
-        → furthest_from vertices edges eastern up next (drop (i + 1) fan) ≡ rest
-    furthest_moves next h e = rw (e, add-one i, drop-cons fan i 0 here) (sym (first_choice (goes_on vertices edges eastern up best (get_or fan i 0)) moved passed h))
-
-    -- one that does not is passed
-    pub furthest_stays : (next : ℕ) → goes_on vertices edges eastern up best (get_or fan i 0) ≡ false → next ≡ best
-        → furthest_from vertices edges eastern up next (drop (i + 1) fan) ≡ rest
-    furthest_stays next h e = rw (e, add-one i, drop-cons fan i 0 here) (sym (second_choice (goes_on vertices edges eastern up best (get_or fan i 0)) moved passed h))
-
-  module _ (e best f : ℕ) where
-    -- the nearer of two edges over e
-    abbrev closer : ℕ
-    closer = elim (is_under vertices edges eastern f best) [ true ↦ f | false ↦ best ]
-
-    -- the nearer one, f being over e
-    abbrev found : ℕ
-    found = elim (eqb best e) [ true ↦ f | false ↦ closer ]
-
-    -- an edge that is not over e is not the next one up
-    pub nearer_past : is_under vertices edges eastern e f ≡ false → nearer vertices edges eastern e best f ≡ best
-    nearer_past = second_choice (is_under vertices edges eastern e f) found best
-
-    found_next : is_under vertices edges eastern e f ≡ true → nearer vertices edges eastern e best f ≡ found
-    found_next = first_choice (is_under vertices edges eastern e f) found best
-
-    -- the first edge over e that is found
-    pub nearer_first : is_under vertices edges eastern e f ≡ true → best ≡ e → nearer vertices edges eastern e best f ≡ f
-    nearer_first p q = found_next p ∙ first_choice (eqb best e) f closer (eq-eqb best e q)
-
-    -- an edge over e and under the next one found so far
-    pub nearer_between : is_under vertices edges eastern e f ≡ true → (best ≡ e → ⊥) → is_under vertices edges eastern f best ≡ true
-        → nearer vertices edges eastern e best f ≡ f
-    nearer_between p q r = found_next p ∙ second_choice (eqb best e) f closer (ne_eqb best e q) ∙ first_choice (is_under vertices edges eastern f best) f best r
-
-    -- an edge over e that is not under the next one found so far
-    pub nearer_beyond : is_under vertices edges eastern e f ≡ true → (best ≡ e → ⊥) → is_under vertices edges eastern f best ≡ false
-        → nearer vertices edges eastern e best f ≡ best
-    nearer_beyond p q r = found_next p ∙ second_choice (eqb best e) f closer (ne_eqb best e q) ∙ second_choice (is_under vertices edges eastern f best) f best r
+-- a formula holds of every entry of a list where `all` finds none of which it does not
+pub all_every : (formula : ℕ → Formula) (l : List ℕ) (r : Bool)
+    → MatchBool r (AllWithin (λ e. holds (formula e) ≡ true) l 0 (length l)) ((k : ℕ) × (k < length l) × HoldsAt (λ e. holds (formula e) ≡ false) l k)
+    → r ≡ holds (every_below (length l) (λ i. formula (get_or l i 0)))
+all_every formula l true h =
+    sym (yes_every (length l) (λ i. holds (formula (get_or l i 0))) (λ k b. h k 0 (omega arith) b))
+all_every formula l false h =
+    sym (fails (every_below (length l) (λ i. formula (get_or l i 0))) (λ m. denies (formula (get_or l h.0 0)) (h.2 0) (m h.0 h.1)))

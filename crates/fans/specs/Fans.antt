@@ -104,7 +104,7 @@ abbrev pub point_order : List ℤ → ℕ → List ℕ
 point_order vertices count = in_order (λ v. pair_key (vertex_x vertices v) (vertex_y vertices v)) count
 
 -- rule 5 is broken at vertex v, but for the margin
-abbrev pub vertex_fault : List ℤ → List ℕ → ℕ → Bool
+unfoldable pub vertex_fault : List ℤ → List ℕ → ℕ → Bool
 vertex_fault vertices edges v = not (holds (vertex_tied vertices edges (fan_of edges false v) (fan_of edges true v)))
 
 -- rule 5 is broken on the margin by two vertices, the one after the other in order

@@ -1,215 +1,118 @@
 // Rule 5, names agree: refusal 11.
 #![tactic(auto)]
 
-ghost use Rattle.std.specs.Prelude.{◌≡◌, not, true, false, ℕ, ◌+◌, ◌-◌, ◌<◌, ◌≤◌, ◌/◌, length, get_or};
+ghost use Rattle.std.specs.Prelude.{◌≡◌, not, ℕ, ◌-◌, ◌<◌, ◌≤◌, ◌/◌, min, length, get_or};
 ghost use Rattle.subdivision.specs.Limits.{max_vertices, max_edges};
 ghost use Rattle.subdivision.specs.Formula.{holds};
-ghost use Rattle.subdivision.specs.Lowest.{lowest};
-ghost use Rattle.subdivision.specs.Sheet.{sheet_of, vertex_count};
+ghost use Rattle.subdivision.specs.Lowest.{found, first};
+ghost use Rattle.subdivision.specs.Sheet.{vertex_count};
 ghost use Rattle.subdivision.specs.Rules.{names_agree};
 ghost use Rattle.subdivision.specs.Accepted.{Rule1, Rule2, Rule4};
+ghost use Rattle.tables.specs.Lent.{lent};
 ghost use Rattle.theory.proofs.Lowest.{least_of};
-ghost use Rattle.fans.specs.Fans.{AreFans, fan_of, margin_tied, vertex_fault, fault_between, margin_fault, point_order, names_fault};
+ghost use Rattle.fans.specs.Fans.{vertex_fault, fault_between, margin_fault, point_order, names_fault};
 
-use geometry::lines::smaller;
+use order::{BothSides, Fans};
 use subdivision::{MAX_EDGES, MAX_VERTICES};
-use tables::{shifted, vertex_x, word};
+use tables::{LentSheet, Tables, shifted, vertex_x};
 
 mod order;
 mod tied;
 
-// The lowest vertex that breaks rule 5, on a sheet that keeps rules 1, 2 and 4; the number of
-// vertices where none does.
-pub fn first_disagreement(west: i32, east: i32, vertices: &[i32], edges: &[u32], zones: u32) -> u32
-    requires vertices_len_bound { (length vertices.now / 2 ≤ max_vertices) × (length edges.now / 4 ≤ max_edges) }
-    requires rule1 { Rule1 (sheet_of west east vertices.now edges.now zones) }
-    requires rule2 { Rule2 (sheet_of west east vertices.now edges.now zones) }
-    requires rule4 { Rule4 (sheet_of west east vertices.now edges.now zones) }
-    ensures { result ≡ lowest (λ v. not (holds (names_agree (sheet_of west east vertices.now edges.now zones) v))) (vertex_count (sheet_of west east vertices.now edges.now zones)) }
+// The lowest vertex that breaks rule 5, on a sheet that keeps rules 1, 2 and 4; `None` where none does.
+pub fn first_disagreement(sheet: LentSheet) -> Option<u32>
+    requires vertices_len_bound { (length sheet.tables.vertices.now / 2 ≤ max_vertices) × (length sheet.tables.edges.now / 4 ≤ max_edges) }
+    requires rule1 { Rule1 (lent sheet) }
+    requires rule2 { Rule2 (lent sheet) }
+    requires rule4 { Rule4 (lent sheet) }
+    ensures { result ≡ first (λ v. not (holds (names_agree (lent sheet.entry) v))) (vertex_count (lent sheet.entry)) }
 {
+    // A fixed buffer: no heap, memory of a known size.
     let mut points = [0u32; MAX_VERTICES];
-    let n = vertices.len() / 2;
-    fault_by_points(shifted(west), vertices, edges, &mut points[..n])
+    let n = sheet.tables.vertex_count();
+    let points = &mut points[..n];
+    repeats::point_order(sheet.tables.vertices, points);
+    names_fault(shifted(sheet.west), sheet.tables, points)
 }
 
-// The lowest vertex at which rule 5 is broken, with room for the vertices in order; their number where it is not.
-fn fault_by_points(west: u32, vertices: &[i32], edges: &[u32], points: &mut [u32]) -> u32
-    requires vertices_len_bound { (length vertices.now / 2 ≤ max_vertices) × (length edges.now / 4 ≤ max_edges) }
-    requires points_len { length points.old ≡ length vertices.now / 2 }
-    ensures { result ≡ names_fault west vertices.now edges.now }
+// The lowest vertex at which rule 5 is broken, from the vertices in order; `None` where it is not.
+fn names_fault(west: u32, tables: Tables, points: &[u32]) -> Option<u32>
+    requires vertices_len_bound { (length tables.vertices.now / 2 ≤ max_vertices) × (length tables.edges.now / 4 ≤ max_edges) }
+    requires points_value { points.now ≡ point_order tables.vertices.now (length tables.vertices.now / 2) }
+    ensures { result ≡ found (length tables.entry.vertices.now / 2) (names_fault west tables.entry.vertices.now tables.entry.edges.now) }
 {
-    repeats::point_order(vertices, points);
-    names_fault(west, vertices, edges, points)
-}
-
-// The same, from the vertices in order.
-fn names_fault(west: u32, vertices: &[i32], edges: &[u32], points: &[u32]) -> u32
-    requires vertices_len_bound { (length vertices.now / 2 ≤ max_vertices) × (length edges.now / 4 ≤ max_edges) }
-    requires points_value { points.now ≡ point_order vertices.now (length vertices.now / 2) }
-    ensures { result ≡ names_fault west vertices.now edges.now }
-{
+    // A fixed buffer: no heap, memory of a known size.
     let mut western = [0u32; MAX_EDGES];
     let mut eastern = [0u32; MAX_EDGES];
     let mut wstarts = [0u32; MAX_VERTICES + 1];
     let mut estarts = [0u32; MAX_VERTICES + 1];
-    let m = edges.len() / 4;
-    let n = vertices.len() / 2 + 1;
-    fault_by_fans(
-        west,
-        vertices,
-        edges,
-        points,
-        &mut western[..m],
-        &mut wstarts[..n],
-        &mut eastern[..m],
-        &mut estarts[..n],
-    )
+    let m = tables.edge_count();
+    let n = tables.vertex_count() + 1;
+    let sides = BothSides {
+        tables,
+        western: Fans::sorted(tables.edges, false, &mut western[..m], &mut wstarts[..n]),
+        eastern: Fans::sorted(tables.edges, true, &mut eastern[..m], &mut estarts[..n]),
+    };
+    let count = tables.vertex_count() as u32;
+    let inside = first_untied(sides, count);
+    let margin = first_on_margin(west, sides, points);
+    lower(inside, margin)
 }
 
-// The same, with room for the fans of the two sides: the edges in order, and where the fan of each
-// vertex starts.
-fn fault_by_fans(
-    west: u32,
-    vertices: &[i32],
-    edges: &[u32],
-    points: &[u32],
-    western: &mut [u32],
-    wstarts: &mut [u32],
-    eastern: &mut [u32],
-    estarts: &mut [u32],
-) -> u32
-    requires vertices_len_bound { (length vertices.now / 2 ≤ max_vertices) × (length edges.now / 4 ≤ max_edges) }
-    requires points_value { points.now ≡ point_order vertices.now (length vertices.now / 2) }
-    requires western_len { (length western.old ≡ length edges.now / 4) × (length wstarts.old ≡ length vertices.now / 2 + 1) }
-    requires eastern_len { (length eastern.old ≡ length edges.now / 4) × (length estarts.old ≡ length vertices.now / 2 + 1) }
-    ensures { result ≡ names_fault west vertices.now edges.now }
+// The lower of two numbers, either of which may be none.
+fn lower(a: Option<u32>, b: Option<u32>) -> Option<u32>
+    ensures { (count p q : ℕ) → a ≡ found count p → b ≡ found count q → result ≡ found count (min p q) }
 {
-    let count = (vertices.len() / 2) as u32;
-    order::fan_order(edges, false, western, wstarts);
-    order::fan_order(edges, true, eastern, estarts);
-    let inside = first_untied(vertices, edges, western, wstarts, eastern, estarts, count);
-    let margin = first_on_margin(west, vertices, edges, points, eastern, estarts, count);
-    smaller(inside, margin)
-}
-
-// The lowest of the first `count` vertices at which rule 5 is broken, but for the margin; `count` where none is.
-fn first_untied(
-    vertices: &[i32],
-    edges: &[u32],
-    western: &[u32],
-    wstarts: &[u32],
-    eastern: &[u32],
-    estarts: &[u32],
-    count: u32,
-) -> u32
-    requires count_in_bounds { (count < length wstarts.now) × (count < length estarts.now) }
-    requires are_fans { AreFans edges.now false western.now wstarts.now }
-    requires are_fans_2 { AreFans edges.now true eastern.now estarts.now }
-    ensures { result ≡ lowest (vertex_fault vertices.now edges.now) count }
-{
-    let mut v: u32 = 0;
-    while v < count {
-        if untied_at(vertices, edges, western, wstarts, eastern, estarts, v) {
-            return v;
-        }
-        v += 1;
+    match (a, b) {
+        (Some(x), Some(y)) => Some(x.min(y)),
+        _ => a.or(b),
     }
-    v
+}
+
+// The lowest of the first `count` vertices at which rule 5 is broken, but for the margin; `None` where none is.
+fn first_untied(sides: BothSides, count: u32) -> Option<u32>
+    requires { count ≤ length sides.tables.vertices.now / 2 }
+    ensures { result ≡ first (vertex_fault sides.entry.tables.vertices.now sides.entry.tables.edges.now) count }
+{
+    (0..count).find(|v| is_untied(sides, *v))
 }
 
 // Whether rule 5 is broken at vertex v, but for the margin.
-fn untied_at(
-    vertices: &[i32],
-    edges: &[u32],
-    western: &[u32],
-    wstarts: &[u32],
-    eastern: &[u32],
-    estarts: &[u32],
-    v: u32,
-) -> bool
-    requires v_in_bounds { (v + 1 < length wstarts.now) × (v + 1 < length estarts.now) }
-    requires are_fans { AreFans edges.now false western.now wstarts.now }
-    requires are_fans_2 { AreFans edges.now true eastern.now estarts.now }
-    ensures { result ≡ vertex_fault vertices.now edges.now v }
+fn is_untied(sides: BothSides, v: u32) -> bool
+    requires { v < length sides.tables.vertices.now / 2 }
+    ensures { result ≡ vertex_fault sides.entry.tables.vertices.now sides.entry.tables.edges.now v }
 {
-    let k = v as usize;
-    let a = word(wstarts, k) as usize;
-    let b = word(wstarts, k + 1) as usize;
-    let c = word(estarts, k) as usize;
-    let d = word(estarts, k + 1) as usize;
-    !tied::vertex_tied(vertices, edges, &western[a..b], &eastern[c..d])
+    !tied::vertex_tied(sides.tables, sides.western.fan(v), sides.eastern.fan(v))
 }
 
-// The lowest vertex at which rule 5 is broken on the margin, from the vertices in order; `count` where none is.
-fn first_on_margin(
-    west: u32,
-    vertices: &[i32],
-    edges: &[u32],
-    points: &[u32],
-    eastern: &[u32],
-    starts: &[u32],
-    count: u32,
-) -> u32
-    requires count_in_bounds { (count ≤ length points.now) × (count < length starts.now) }
-    requires by_index { (i : ℕ) → i < count → get_or points.now i 0 < count }
-    requires are_fans { AreFans edges.now true eastern.now starts.now }
-    ensures { result ≡ least_of (margin_fault west vertices.now edges.now points.now) (λ i. get_or points.now i 0) (count - 1) count }
+// The lowest vertex at which rule 5 is broken on the margin, from the vertices in order; `None` where none is.
+fn first_on_margin(west: u32, sides: BothSides, points: &[u32]) -> Option<u32>
+    requires points_len { length points.now ≤ length sides.tables.vertices.now / 2 }
+    requires by_index { (i : ℕ) → i < length points.now → get_or points.now i 0 < length points.now }
+    ensures { result ≡ found (length points.now) (least_of (margin_fault west sides.entry.tables.vertices.now sides.entry.tables.edges.now points.now) (λ i. get_or points.now i 0) (length points.now - 1) (length points.now)) }
 {
-    let n = count as usize;
-    let mut least = count;
-    let mut i = 0;
-    while i + 1 < n {
-        let under = points[i];
-        let over = points[i + 1];
-        if margin_fault(west, vertices, edges, eastern, starts, under, over) {
-            least = smaller(under, least);
+    let mut least = None;
+    for i in 1..points.len() {
+        let under = points[i - 1];
+        let over = points[i];
+        if is_fault_between(west, sides, under, over) {
+            least = lower(Some(under), least);
         }
-        i += 1;
     }
     least
 }
 
 // Whether rule 5 is broken on the margin by two vertices, the one after the other in order.
-fn margin_fault(
-    west: u32,
-    vertices: &[i32],
-    edges: &[u32],
-    eastern: &[u32],
-    starts: &[u32],
-    under: u32,
-    over: u32,
-) -> bool
-    requires under_in_bounds { (under + 1 < length starts.now) × (over + 1 < length starts.now) }
-    requires are_fans { AreFans edges.now true eastern.now starts.now }
-    ensures { result ≡ fault_between west vertices.now edges.now under over }
+fn is_fault_between(west: u32, sides: BothSides, under: u32, over: u32) -> bool
+    requires { (under < length sides.tables.vertices.now / 2) × (over < length sides.tables.vertices.now / 2) }
+    ensures { result ≡ fault_between west sides.entry.tables.vertices.now sides.entry.tables.edges.now under over }
 {
-    if vertex_x(vertices, under) != west {
-        return false;
-    }
-    if vertex_x(vertices, over) != west {
-        return false;
-    }
-    !tied_over(vertices, edges, eastern, starts, under, over)
-}
-
-// Rule 5 on the margin, for two vertices, one over the other.
-fn tied_over(
-    vertices: &[i32],
-    edges: &[u32],
-    eastern: &[u32],
-    starts: &[u32],
-    under: u32,
-    over: u32,
-) -> bool
-    requires under_in_bounds { (under + 1 < length starts.now) × (over + 1 < length starts.now) }
-    requires are_fans { AreFans edges.now true eastern.now starts.now }
-    ensures { result ≡ holds (margin_tied vertices.now edges.now (fan_of edges.now true under) (fan_of edges.now true over)) }
-{
-    let v = under as usize;
-    let u = over as usize;
-    let a = word(starts, v) as usize;
-    let b = word(starts, v + 1) as usize;
-    let c = word(starts, u) as usize;
-    let d = word(starts, u + 1) as usize;
-    tied::margin_tied(vertices, edges, &eastern[a..b], &eastern[c..d])
+    let vertices = sides.tables.vertices;
+    vertex_x(vertices, under) == west
+        && vertex_x(vertices, over) == west
+        && !tied::margin_tied(
+            sides.tables,
+            sides.eastern.fan(under),
+            sides.eastern.fan(over),
+        )
 }

@@ -1,14 +1,14 @@
 -- A page judged line by line, and the tables that a good one holds: document 02, P1, "head first, then exactly V vertices, m edges,
 -- any points", and its refusals.
-use Rattle.std.specs.Prelude.{◌≡◌, true, false, not, List, ◌⊎◌, ℕ, ◌+◌, ◌-◌, ◌*◌, ◌/◌, ◌%◌, ◌<◌, leb, eqb, ℤ, length}
+use Rattle.std.specs.Prelude.{◌≡◌, true, false, not, List, ◌⊎◌, ℕ, ◌+◌, ◌-◌, ◌*◌, ◌/◌, ◌%◌, ◌<◌, leb, eqb, ℤ, length, Result, Ok, Err}
 use Rattle.subdivision.specs.Formula.{Formula, is_less, is_at_most, is_equal, both, implies, holds, Means}
 use Rattle.subdivision.specs.Lowest.{lowest}
 use Rattle.subdivision.specs.Lists.{tab, put}
 use Rattle.subdivision.specs.Sheet.{Sheet, sheet_of}
 use Rattle.subdivision.specs.Refusals.{counts_within}
 use Rattle.frames.specs.declared.Head.{Head}
-use Rattle.frames.specs.declared.Judged.{Judged}
-use Rattle.frames.specs.declared.Page.{Page}
+use Rattle.frames.specs.declared.PageContents.{PageContents}
+use Rattle.frames.specs.declared.PageRefused.{PageRefused}
 use Rattle.frames.specs.Digits.{signed_of}
 use Rattle.frames.specs.Lines.{line_start, line_end, kind_at, number_at, is_frame}
 
@@ -20,9 +20,17 @@ kind_in_order vertices edges k =
       | false ↦ elim (leb k vertices) [ true ↦ 1 | false ↦ elim (leb k (vertices + edges)) [ true ↦ 2 | false ↦ 3 ] ]
     ]
 
+-- a refusal of a page: its number, and the line that it names
+abbrev pub refused_page : {A : Type 0} → ℕ → ℕ → Result A PageRefused
+refused_page number line = Err (record { number = number; line = line })
+
+-- a page with a sheet: its head, and the number of points
+abbrev pub sheet_page : Head → ℕ → Result PageContents PageRefused
+sheet_page head count = Ok (record { head = head; points = count })
+
 -- what a call of the reader leaves: its answer, and the lent tables
 pub record PageRead : Type 0 where
-  pub page : Page
+  pub page : Result PageContents PageRefused
   pub vertices : List ℤ
   pub edges : List ℕ
   pub points : List ℤ
@@ -89,8 +97,8 @@ module _ (page : List ℕ) where
   point_count = first_not_good - (1 + head_vertices + head_edges)
 
   -- the earliest line that is not good decides, unless the page ends there
-  unfoldable pub judged_page : Judged
-  judged_page = elim (holds (is_end first_not_good)) [ true ↦ Judged.Good point_count | false ↦ Judged.Refused (line_refusal first_not_good) first_not_good ]
+  unfoldable pub judged_page : Result ℕ PageRefused
+  judged_page = elim (holds (is_end first_not_good)) [ true ↦ Ok point_count | false ↦ refused_page (line_refusal first_not_good) first_not_good ]
 
   -- the numbers of the head
   abbrev pub head_of : Head
@@ -122,12 +130,12 @@ module _ (page : List ℕ) where
   unfoldable pub read_page : List ℤ → List ℕ → List ℤ → PageRead
   read_page vertices edges points =
       elim judged_page [
-        | Judged.Refused number line ↦ record { page = Page.Refused number line; vertices = vertices; edges = edges; points = points }
-        | Judged.Good count ↦
+        | Err e ↦ record { page = Err e; vertices = vertices; edges = edges; points = points }
+        | Ok count ↦
             elim (holds (room_kept count (length vertices) (length edges) (length points))) [
-              | false ↦ record { page = Page.Refused 33 0; vertices = vertices; edges = edges; points = points }
+              | false ↦ record { page = refused_page 33 0; vertices = vertices; edges = edges; points = points }
               | true ↦
-                  record { page = Page.Sheet head_of count; vertices = put vertex_words vertices; edges = put edge_words edges; points = put (point_words count) points }
+                  record { page = sheet_page head_of count; vertices = put vertex_words vertices; edges = put edge_words edges; points = put (point_words count) points }
             ]
       ]
 

@@ -1,8 +1,8 @@
 -- What the program prints for a page: document 02, P1, "prints a line for each point", and P5, "programs with fixed buffers".
-use Rattle.std.specs.Prelude.{true, false, List, [], ◌∷◌, ◌++◌, ℕ, zero, suc, ◌+◌, ◌*◌, ◌/◌, ◌^◌, leb, ltb, ℤ, pos, length, get_or}
+use Rattle.std.specs.Prelude.{true, false, List, [], ◌∷◌, ◌++◌, ℕ, zero, suc, ◌+◌, ◌*◌, ◌/◌, ◌^◌, leb, ltb, ℤ, pos, length, get_or, Ok, Err}
 use Rattle.io.specs.Digits.{last_digits}
+use Rattle.subdivision.specs.Results.{Reply, refused}
 use Rattle.subdivision.specs.declared.Answer.{Answer}
-use Rattle.subdivision.specs.declared.Verdict.TheVariants.{Passed, Refused}
 use Rattle.subdivision.specs.Limits.{program_limits}
 use Rattle.subdivision.specs.Formula.{Formula, both, not_so, holds}
 use Rattle.subdivision.specs.Lowest.{lowest}
@@ -11,8 +11,6 @@ use Rattle.subdivision.specs.Sheet.{Sheet}
 use Rattle.subdivision.specs.Refusals.{judged, counts_within_under}
 use Rattle.subdivision.specs.Faults.{table_refusals}
 use Rattle.subdivision.specs.Calls.{reading}
-use Rattle.frames.specs.declared.Judged.{Judged}
-use Rattle.frames.specs.declared.Written.{Written}
 use Rattle.frames.specs.Lines.{newline}
 use Rattle.frames.specs.Pages.{head_vertices, head_edges, head_zones, is_whole, is_well_made, is_in_order, judged_page, page_sheet, point_words}
 use Rattle.frames.specs.Texts.{PageWritten}
@@ -54,11 +52,11 @@ abbrev pub refused_text : ℕ → ℕ → List ℕ
 refused_text number item = refused_word ++ (decimal number ++ (32 ∷ decimal item ++ (newline ∷ [])))
 
 -- the line of an answer
-unfoldable pub answer_text : Answer → List ℕ
-answer_text (Answer.Vertex v) = numbered vertex_word v
-answer_text (Answer.Edge e) = numbered edge_word e
-answer_text (Answer.Zone z) = numbered zone_word z
-answer_text (Answer.Refused number item) = refused_text number item
+unfoldable pub answer_text : Reply → List ℕ
+answer_text (Ok (Answer.Vertex v)) = numbered vertex_word v
+answer_text (Ok (Answer.Edge e)) = numbered edge_word e
+answer_text (Ok (Answer.Zone z)) = numbered zone_word z
+answer_text (Err e) = refused_text e.number e.item
 
 module _ (s : Sheet) (points : List ℤ) where
   -- the lines of the first so many points of a table, by the plain reading
@@ -69,7 +67,7 @@ module _ (s : Sheet) (points : List ℤ) where
   -- a line for each point of an accepted sheet; one refusal line alone for a refused one
   unfoldable pub sheet_text : List ℕ
   sheet_text =
-      elim (judged (table_refusals s)) [ Refused number item ↦ refused_text number item | Passed ↦ answers_text (length points / 2) ]
+      elim (judged (table_refusals s)) [ Err e ↦ refused_text e.number e.item | Ok u ↦ answers_text (length points / 2) ]
 
 module _ (page : List ℕ) where
   -- the program's last check of line 0 (P5): the line is there whole, well made and in order, and its counts are more than fixed buffers hold
@@ -88,8 +86,8 @@ module _ (page : List ℕ) where
               | true ↦ refused_text 1 0
               | false ↦
                   elim (judged_page page) [
-                    | Judged.Refused number line ↦ refused_text number line
-                    | Judged.Good count ↦ sheet_text (page_sheet page) (point_words page count)
+                    | Err e ↦ refused_text e.number e.line
+                    | Ok count ↦ sheet_text (page_sheet page) (point_words page count)
                   ]
             ]
       ]
@@ -98,6 +96,6 @@ module _ (page : List ℕ) where
   unfoldable pub place_page : List ℕ → PageWritten
   place_page text =
       elim (leb max_text (length text)) [
-        | true ↦ record { written = Written.Text (length placed_text); text = put placed_text text }
-        | false ↦ record { written = Written.Refused 33; text = text }
+        | true ↦ record { written = Ok (length placed_text); text = put placed_text text }
+        | false ↦ record { written = refused 33 0; text = text }
       ]

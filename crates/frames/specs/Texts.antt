@@ -1,17 +1,19 @@
 -- The text of a sheet with its points, and the writer: document 02, P1, "a writer makes the same frames".
-use Rattle.std.specs.Prelude.{◌≡◌, List, [], ◌∷◌, ◌++◌, ℕ, zero, suc, ◌+◌, ◌*◌, ◌/◌, ◌%◌, ◌≤◌, ℤ, pos, length, get_or, take}
+use Rattle.std.specs.Prelude.{◌≡◌, List, [], ◌∷◌, ◌++◌, ℕ, zero, suc, ◌+◌, ◌*◌, ◌/◌, ◌%◌, ◌≤◌, ℤ, pos, length, get_or, take, Result, Ok, Err}
 use Rattle.io.specs.Digits.{last_digits}
-use Rattle.subdivision.specs.declared.Verdict.TheVariants.{Passed, Refused}
+use Rattle.subdivision.specs.declared.Refused.{Refused}
 use Rattle.subdivision.specs.Formula.{Formula, is_at_most, is_equal, both}
 use Rattle.subdivision.specs.Lists.{put}
 use Rattle.subdivision.specs.Sheet.{Sheet, sheet_of, vertex_count, edge_count, zone_count}
 use Rattle.subdivision.specs.Refusals.{Refusal, unnamed, judged, counts_kept}
 use Rattle.frames.specs.declared.Head.{Head}
-use Rattle.frames.specs.declared.Page.{Page}
-use Rattle.frames.specs.declared.Written.{Written}
 use Rattle.frames.specs.Digits.{word_of}
 use Rattle.frames.specs.Lines.{newline}
-use Rattle.frames.specs.Pages.{read_page}
+use Rattle.frames.specs.Pages.{sheet_page, read_page}
+
+-- what writing a page gives back beside the text: so many bytes, or a refusal
+abbrev pub Written : Type 0
+Written = Result ℕ Refused
 
 -- what a call of the writer leaves: its answer, and the lent text
 pub record PageWritten : Type 0 where
@@ -65,8 +67,8 @@ module _ (s : Sheet) (points : List ℤ) where
   unfoldable pub write_page : List ℕ → PageWritten
   write_page text =
       elim (judged (writer_refusals (length text))) [
-        | Passed ↦ record { written = Written.Text (length page_text); text = put page_text text }
-        | Refused number item ↦ record { written = Written.Refused number; text = text }
+        | Ok u ↦ record { written = Ok (length page_text); text = put page_text text }
+        | Err e ↦ record { written = Err e; text = text }
       ]
 
   -- the head of the sheet
@@ -78,7 +80,7 @@ module _ (s : Sheet) (points : List ℤ) where
   ReadsBack page =
       (vertices : List ℤ) (edges : List ℕ) (points' : List ℤ)
       → length s.vertices ≤ length vertices → length s.edges ≤ length edges → length points ≤ length points'
-      → read_page page vertices edges points' ≡ record { page = Page.Sheet sheet_head (length points / 2); vertices = put s.vertices vertices; edges = put s.edges edges; points = put points points' }
+      → read_page page vertices edges points' ≡ record { page = sheet_page sheet_head (length points / 2); vertices = put s.vertices vertices; edges = put s.edges edges; points = put points points' }
 
 -- a page is the text of what was read from it, and so the only page that reads so: the tables afterwards, as far as the head counts them
 abbrev pub OneText : List ℕ → Head → ℕ → List ℤ → List ℕ → List ℤ → Type 0

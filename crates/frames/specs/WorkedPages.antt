@@ -1,15 +1,14 @@
 -- Worked cases of document 02, P1, computed from the definitions: the lens sheet with its seven points as a page, and pages that are refused.
-use Rattle.std.specs.Prelude.{◌≡◌, refl, false, List, [], ◌∷◌, ◌++◌, ℕ, ℤ, pos, negsuc, take, drop, set}
+use Rattle.std.specs.Prelude.{◌≡◌, refl, false, List, [], ◌∷◌, ◌++◌, ℕ, ℤ, pos, negsuc, take, drop, set, Ok}
+use Rattle.subdivision.specs.Results.{refused}
 use Rattle.subdivision.specs.declared.Answer.{Answer}
 use Rattle.subdivision.specs.Formula.{holds}
 use Rattle.subdivision.specs.Lowest.{lowest}
 use Rattle.subdivision.specs.Lists.{tab}
 use Rattle.subdivision.specs.Sheet.{sheet_of}
 use Rattle.subdivision.specs.WorkedTable.{lens}
-use Rattle.frames.specs.declared.Judged.TheVariants.{Good, Refused}
-use Rattle.frames.specs.declared.Page.{Page}
 use Rattle.frames.specs.Lines.{line_end, newline}
-use Rattle.frames.specs.Pages.{judged_page, read_page}
+use Rattle.frames.specs.Pages.{refused_page, sheet_page, judged_page, read_page}
 use Rattle.frames.specs.Texts.{frame_text, head_numbers, pair_numbers, page_text, sheet_head}
 use Rattle.frames.specs.Placing.{decimal, refused_text, answer_text, head_beyond, placed_text}
 
@@ -40,7 +39,7 @@ lens_vertex = refl
 -- read again it gives the sheet and the points back
 pub lens_read
     : read_page lens_page lens.vertices lens.edges lens_points
-    ≡ record { page = Page.Sheet (sheet_head lens []) 7; vertices = lens.vertices; edges = lens.edges; points = lens_points }
+    ≡ record { page = sheet_page (sheet_head lens []) 7; vertices = lens.vertices; edges = lens.edges; points = lens_points }
 unfolding lens lens_points lens_page page_text read_page judged_page line_end lowest tab
 lens_read = refl
 
@@ -51,89 +50,89 @@ short_page = page_text (sheet_of (pos 0) (pos 4) (pos 0 ∷ negsuc 0 ∷ []) (0 
 -- ---- that page whole and damaged, judged
 
 -- the page as it is
-pub judged_whole : judged_page short_page ≡ Good 1
+pub judged_whole : judged_page short_page ≡ Ok 1
 unfolding short_page page_text judged_page line_end lowest
 judged_whole = refl
 
 -- an empty page
-pub judged_empty : judged_page [] ≡ Refused 32 0
+pub judged_empty : judged_page [] ≡ refused_page 32 0
 unfolding short_page page_text judged_page line_end lowest
 judged_empty = refl
 
 -- an empty line
-pub judged_empty_line : judged_page (newline ∷ []) ≡ Refused 30 0
+pub judged_empty_line : judged_page (newline ∷ []) ≡ refused_page 30 0
 unfolding short_page page_text judged_page line_end lowest
 judged_empty_line = refl
 
 -- the head alone
-pub judged_head_alone : judged_page (take 43 short_page) ≡ Refused 32 1
+pub judged_head_alone : judged_page (take 43 short_page) ≡ refused_page 32 1
 unfolding short_page page_text judged_page line_end lowest
 judged_head_alone = refl
 
 -- the head without its newline
-pub judged_head_unfinished : judged_page (take 42 short_page) ≡ Refused 32 0
+pub judged_head_unfinished : judged_page (take 42 short_page) ≡ refused_page 32 0
 unfolding short_page page_text judged_page line_end lowest
 judged_head_unfinished = refl
 
 -- an upper-case digit in the head
-pub judged_upper_case : judged_page (set short_page 40 70) ≡ Refused 30 0
+pub judged_upper_case : judged_page (set short_page 40 70) ≡ refused_page 30 0
 unfolding short_page page_text judged_page line_end lowest
 judged_upper_case = refl
 
 -- no zones
-pub judged_no_zones : judged_page (set short_page 41 48) ≡ Refused 1 0
+pub judged_no_zones : judged_page (set short_page 41 48) ≡ refused_page 1 0
 unfolding short_page page_text judged_page line_end lowest
 judged_no_zones = refl
 
 -- a point where the vertex is to be
-pub judged_point_for_vertex : judged_page (set short_page 44 51) ≡ Refused 31 1
+pub judged_point_for_vertex : judged_page (set short_page 44 51) ≡ refused_page 31 1
 unfolding short_page page_text judged_page line_end lowest
 judged_point_for_vertex = refl
 
 -- the same with a bad digit
-pub judged_bad_point_for_vertex : judged_page (set (set short_page 44 51) 45 65) ≡ Refused 30 1
+pub judged_bad_point_for_vertex : judged_page (set (set short_page 44 51) 45 65) ≡ refused_page 30 1
 unfolding short_page page_text judged_page line_end lowest
 judged_bad_point_for_vertex = refl
 
 -- an edge of a vertex's length
-pub judged_short_edge : judged_page (set short_page 44 50) ≡ Refused 30 1
+pub judged_short_edge : judged_page (set short_page 44 50) ≡ refused_page 30 1
 unfolding short_page page_text judged_page line_end lowest
 judged_short_edge = refl
 
 -- no head
-pub judged_no_head : judged_page (drop 43 short_page) ≡ Refused 31 0
+pub judged_no_head : judged_page (drop 43 short_page) ≡ refused_page 31 0
 unfolding short_page page_text judged_page line_end lowest
 judged_no_head = refl
 
 -- no points
-pub judged_no_points : judged_page (take 97 short_page) ≡ Good 0
+pub judged_no_points : judged_page (take 97 short_page) ≡ Ok 0
 unfolding short_page page_text judged_page line_end lowest
 judged_no_points = refl
 
 -- no edges
-pub judged_no_edges : judged_page (take 62 short_page) ≡ Refused 32 2
+pub judged_no_edges : judged_page (take 62 short_page) ≡ refused_page 32 2
 unfolding short_page page_text judged_page line_end lowest
 judged_no_edges = refl
 
 -- the last newline missing
-pub judged_last_newline : judged_page (take 115 short_page) ≡ Refused 32 3
+pub judged_last_newline : judged_page (take 115 short_page) ≡ refused_page 32 3
 unfolding short_page page_text judged_page line_end lowest
 judged_last_newline = refl
 
 -- a point cut after one digit
-pub judged_cut : judged_page (take 98 short_page) ≡ Refused 32 3
+pub judged_cut : judged_page (take 98 short_page) ≡ refused_page 32 3
 unfolding short_page page_text judged_page line_end lowest
 judged_cut = refl
 
 -- an empty line at the end
-pub judged_last_empty : judged_page (short_page ++ (newline ∷ [])) ≡ Refused 30 4
+pub judged_last_empty : judged_page (short_page ++ (newline ∷ [])) ≡ refused_page 30 4
 unfolding short_page page_text judged_page line_end lowest
 judged_last_empty = refl
 
 -- ---- that page with other counts (P5): the reader's limits, and what the program holds
 
 -- 1,026 zones are within the limits, and more than the program holds
-pub judged_many_zones : judged_page (set short_page 39 52) ≡ Good 1
+pub judged_many_zones : judged_page (set short_page 39 52) ≡ Ok 1
 unfolding short_page page_text judged_page line_end lowest
 judged_many_zones = refl
 
@@ -156,13 +155,13 @@ unfolding short_page page_text line_end lowest
 held_zones = refl
 
 -- 4,098 zones are beyond the limits
-pub judged_too_many_zones : judged_page (set short_page 38 49) ≡ Refused 1 0
+pub judged_too_many_zones : judged_page (set short_page 38 49) ≡ refused_page 1 0
 unfolding short_page page_text judged_page line_end lowest
 judged_too_many_zones = refl
 
 -- lines of answers
 unfoldable pub answer_lines : List (List ℕ)
-answer_lines = answer_text (Answer.Vertex 0) ∷ answer_text (Answer.Edge 2047) ∷ answer_text (Answer.Zone 10) ∷ answer_text (Answer.Refused 20 0) ∷ []
+answer_lines = answer_text (Ok (Answer.Vertex 0)) ∷ answer_text (Ok (Answer.Edge 2047)) ∷ answer_text (Ok (Answer.Zone 10)) ∷ answer_text (refused 20 0) ∷ []
 
 -- `vertex 0`, `edge 2047`, `zone 10`, `refused 20 0`
 pub answer_lines_lem

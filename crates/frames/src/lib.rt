@@ -9,9 +9,10 @@ pub const MAX_PAGE: usize = 65536;
 pub const MAX_TEXT: usize = 131072;
 
 // What stands at a place of a page.
-#[derive(Clone, Copy)]
+#[derive(Clone, Copy, Debug, PartialEq, Eq)]
 pub enum Line {
-    // A frame: its kind, and the place past its newline.
+    // A frame: its kind, and the place past its newline. The kind is the number that two digits of the page write: an enum is no
+    // plainer, as the order of the kinds and the writer would turn it back into the number.
     Frame(u32, usize),
     // A whole line that is no frame.
     Malformed,
@@ -22,7 +23,7 @@ pub enum Line {
 }
 
 // The numbers of a head.
-#[derive(Clone, Copy)]
+#[derive(Clone, Copy, Debug, PartialEq, Eq)]
 pub struct Head {
     pub west: i32,
     pub east: i32,
@@ -31,29 +32,16 @@ pub struct Head {
     pub zones: u32,
 }
 
-// What a judgement says of a page.
-#[derive(Clone, Copy)]
-pub enum Judged {
-    // A good page, with so many points.
-    Good(usize),
-    // The refusal's number and the line that it names.
-    Refused(u32, usize),
+// What a good page holds beside the words of its tables: its sheet's head, and the number of points.
+#[derive(Clone, Copy, Debug, PartialEq, Eq)]
+pub struct PageContents {
+    pub head: Head,
+    pub points: usize,
 }
 
-// What reading a page gives back beside the tables.
-#[derive(Clone, Copy)]
-pub enum Page {
-    // A sheet's head, and the number of points.
-    Sheet(Head, usize),
-    // The refusal's number and the line that it names, 0 where it names none.
-    Refused(u32, usize),
-}
-
-// What writing a page gives back beside the text.
-#[derive(Clone, Copy)]
-pub enum Written {
-    // So many bytes.
-    Text(usize),
-    // The refusal's number; it names nothing.
-    Refused(u32),
+// Why a page is refused: the refusal's number, and the line that it names, 0 where it names none.
+#[derive(Clone, Copy, Debug, PartialEq, Eq)]
+pub struct PageRefused {
+    pub number: u32,
+    pub line: usize,
 }

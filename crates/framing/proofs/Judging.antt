@@ -1,6 +1,7 @@
 -- Laws of the judgement of a page: which line decides, which refusal it is given, and that it is judged good exactly when it is.
+use Rattle.std.specs.Prelude.{Result, Ok, Err}
 use mathlib.Core.Path.{◌≡◌, refl, sym, ap, subst, ◌∙◌}
-use mathlib.Core.Bool.{Bool, true, false, not, true≢false}
+use mathlib.Core.Bool.{Bool, true, false, not}
 use mathlib.Core.List.{List}
 use mathlib.Core.Logic.{◌⊎◌, inl, inr, ⊎_elim, ◌↔◌}
 use Prim.Native.Nat.{ℕ, zero, suc, ◌+◌, ◌-◌, ◌≤◌, zero-le}
@@ -13,38 +14,30 @@ use Rattle.subdivision.specs.Formula.{holds, Means}
 use Rattle.subdivision.specs.Lists.{put}
 use Rattle.subdivision.specs.Refusals.{counts_within}
 use Rattle.frames.specs.declared.Head.{Head}
-use Rattle.frames.specs.declared.Judged.{Judged}
-use Rattle.frames.specs.declared.Page.{Page}
+use Rattle.frames.specs.declared.PageContents.{PageContents}
+use Rattle.frames.specs.declared.PageRefused.{PageRefused}
 use Rattle.frames.specs.Lines.{line_start}
 use Rattle.frames.specs.Pages.{head_vertices, head_edges, head_zones, is_whole, is_well_made, is_in_order, keeps_limits, is_good, is_end, first_not_good, line_refusal, judged_page, GoodBefore, LineRefuses}
-use Rattle.frames.specs.Pages.{head_of, vertex_words, edge_words, point_words, room_kept, read_page, GoodPage}
+use Rattle.frames.specs.Pages.{refused_page, sheet_page, head_of, vertex_words, edge_words, point_words, room_kept, read_page, GoodPage}
 use Rattle.theory.proofs.Decide.{below_suc, means, held, fails, denies, decided}
 use Rattle.theory.proofs.Lowest.{is_lowest_lem, lowest_before, lowest_passes, lowest_le}
 use Rattle.framing.proofs.LineEnds.{line_end_from}
 
--- whether a judgement is that the page is good
-abbrev is_good_page : Judged → Bool
-is_good_page (Judged.Good count) = true
-is_good_page (Judged.Refused number line) = false
-
--- the points of a good page
-abbrev points_in : Judged → ℕ
-points_in (Judged.Good count) = count
-points_in (Judged.Refused number line) = 0
-
--- the number of a refusal
-abbrev number_in : Judged → ℕ
-number_in (Judged.Good count) = 0
-number_in (Judged.Refused number line) = number
-
--- the line of a refusal
-abbrev line_in : Judged → ℕ
-line_in (Judged.Good count) = 0
-line_in (Judged.Refused number line) = line
-
 -- a sheet is no refusal
-pub sheet_not_refused : {head : Head} {count number line : ℕ} → Page.Sheet head count ≡ Page.Refused number line → ⊥
-sheet_not_refused e = let never : ◌≡◌ {A = ℕ} 0 1 = cc in omega arith
+pub sheet_not_refused : {head : Head} {count number line : ℕ} → sheet_page head count ≡ refused_page number line → ⊥
+sheet_not_refused e = cc
+
+-- refusals that are equal have the same number and the same line
+pub same_refusal : {A : Type 0} {n k number line : ℕ} → refused_page {A = A} n k ≡ refused_page number line → (n ≡ number) × (k ≡ line)
+same_refusal {n = n} {k = k} {number = number} {line = line} e =
+    let same : ◌≡◌ {A = PageRefused} (record { number = n; line = k }) (record { number = number; line = line }) = cc in
+    (ap (λ (r : PageRefused). r.number) same, ap (λ (r : PageRefused). r.line) same)
+
+-- sheets that are equal have the same head and the same number of points
+pub same_sheet : {h head : Head} {n count : ℕ} → sheet_page h n ≡ sheet_page head count → (h ≡ head) × (n ≡ count)
+same_sheet {h} {head} {n} {count} e =
+    let same : ◌≡◌ {A = PageContents} (record { head = h; points = n }) (record { head = head; points = count }) = cc in
+    (ap (λ (p : PageContents). p.head) same, ap (λ (p : PageContents). p.points) same)
 
 module _ (page : List ℕ) where
   -- good lines lie within the page, with a byte each at least
@@ -142,72 +135,71 @@ module _ (page : List ℕ) where
 
   -- the judgement, from whether the page ends at its first line that is not good
   judged_of : {b : Bool} → holds (is_end page (first_not_good page)) ≡ b
-      → judged_page page ≡ elim b [ true ↦ Judged.Good (first_not_good page - (1 + head_vertices page + head_edges page)) | false ↦ Judged.Refused (line_refusal page (first_not_good page)) (first_not_good page) ]
+      → judged_page page ≡ elim b [ true ↦ Ok (first_not_good page - (1 + head_vertices page + head_edges page)) | false ↦ refused_page (line_refusal page (first_not_good page)) (first_not_good page) ]
   unfolding judged_page
-  judged_of e = λ i. elim (e i) [ true ↦ Judged.Good (first_not_good page - (1 + head_vertices page + head_edges page)) | false ↦ Judged.Refused (line_refusal page (first_not_good page)) (first_not_good page) ]
+  judged_of e = λ i. elim (e i) [ true ↦ Ok (first_not_good page - (1 + head_vertices page + head_edges page)) | false ↦ refused_page (line_refusal page (first_not_good page)) (first_not_good page) ]
 
   -- a page that ends at a line, with every line before it good
   pub judged_ends : (k : ℕ) → GoodBefore page k → (Means (is_good page k) → ⊥) → Means (is_end page k)
-      → judged_page page ≡ Judged.Good (k - (1 + head_vertices page + head_edges page))
+      → judged_page page ≡ Ok (k - (1 + head_vertices page + head_edges page))
   judged_ends k g n e =
       let f = first_is k g n in
-      judged_of (ap (λ j. holds (is_end page j)) f ∙ held (is_end page k) e) ∙ ap (λ j. Judged.Good (j - (1 + head_vertices page + head_edges page))) f
+      judged_of (ap (λ j. holds (is_end page j)) f ∙ held (is_end page k) e) ∙ ap (λ j. Ok (j - (1 + head_vertices page + head_edges page))) f
 
   -- a page that does not
   pub judged_refuses : (k : ℕ) → GoodBefore page k → (Means (is_good page k) → ⊥) → (Means (is_end page k) → ⊥)
-      → judged_page page ≡ Judged.Refused (line_refusal page k) k
+      → judged_page page ≡ refused_page (line_refusal page k) k
   judged_refuses k g n e =
       let f = first_is k g n in
-      judged_of (ap (λ j. holds (is_end page j)) f ∙ fails (is_end page k) e) ∙ ap (λ j. Judged.Refused (line_refusal page j) j) f
+      judged_of (ap (λ j. holds (is_end page j)) f ∙ fails (is_end page k) e) ∙ ap (λ j. refused_page (line_refusal page j) j) f
 
   -- a page is refused exactly as its lines say
-  pub judged_exactly : (number line : ℕ) → (judged_page page ≡ Judged.Refused number line) ↔ (GoodBefore page line × LineRefuses page number line)
+  pub judged_exactly : (number line : ℕ) → (judged_page page ≡ refused_page number line) ↔ (GoodBefore page line × LineRefuses page number line)
   judged_exactly number line = (there, back)
     where
       -- the first line that is not good, with its refusal
-      found : Means (is_end page (first_not_good page)) ⊎ (Means (is_end page (first_not_good page)) → ⊥) → judged_page page ≡ Judged.Refused number line
+      found : Means (is_end page (first_not_good page)) ⊎ (Means (is_end page (first_not_good page)) → ⊥) → judged_page page ≡ refused_page number line
           → GoodBefore page line × LineRefuses page number line
-      found (inl e) j = absurd (true≢false (ap is_good_page (sym (judged_ends (first_not_good page) first_before first_not_good_lem e) ∙ j)))
+      found (inl e) j = let never = sym (judged_ends (first_not_good page) first_before first_not_good_lem e) ∙ j in absurd cc
       found (inr e) j =
-          let same = sym (judged_refuses (first_not_good page) first_before first_not_good_lem e) ∙ j in
-          let n = ap number_in same in
-          let l = ap line_in same in
-          (rw l at first_before, rw l at (rw n at (refused_line (first_not_good page) first_not_good_lem e)))
+          let same = same_refusal {A = ℕ} (sym (judged_refuses (first_not_good page) first_before first_not_good_lem e) ∙ j) in
+          (rw same.1 at first_before, rw same.1 at (rw same.0 at (refused_line (first_not_good page) first_not_good_lem e)))
 
-      there : judged_page page ≡ Judged.Refused number line → GoodBefore page line × LineRefuses page number line
+      there : judged_page page ≡ refused_page number line → GoodBefore page line × LineRefuses page number line
       there = found (decided (is_end page (first_not_good page)))
 
-      back : GoodBefore page line × LineRefuses page number line → judged_page page ≡ Judged.Refused number line
+      back : GoodBefore page line × LineRefuses page number line → judged_page page ≡ refused_page number line
       back p =
           let r = line_refused number line p.1 in
-          judged_refuses line p.0 r.1.0 r.1.1 ∙ ap (λ n. Judged.Refused n line) (sym r.0)
+          judged_refuses line p.0 r.1.0 r.1.1 ∙ ap (λ n. refused_page n line) (sym r.0)
 
   -- ---- good pages
 
   -- a good page is judged good
-  pub good_judged : (count : ℕ) → GoodPage page count → judged_page page ≡ Judged.Good count
+  pub good_judged : (count : ℕ) → GoodPage page count → judged_page page ≡ Ok count
   good_judged count g =
       let k = 1 + head_vertices page + head_edges page + count in
       let same : k - (1 + head_vertices page + head_edges page) ≡ count = omega arith in
-      judged_ends k g.0 (λ m. whole_not_end k m.0 g.1) g.1 ∙ ap Judged.Good same
+      judged_ends k g.0 (λ m. whole_not_end k m.0 g.1) g.1 ∙ ap Ok same
 
   -- a page that is judged good is good
-  pub judged_good : (count : ℕ) → judged_page page ≡ Judged.Good count → GoodPage page count
+  pub judged_good : (count : ℕ) → judged_page page ≡ Ok count → GoodPage page count
   judged_good count j = found (decided (is_end page (first_not_good page)))
     where
       found : Means (is_end page (first_not_good page)) ⊎ (Means (is_end page (first_not_good page)) → ⊥) → GoodPage page count
       found (inl e) =
-          let counted = ap points_in (sym (judged_ends (first_not_good page) first_before first_not_good_lem e) ∙ j) in
+          let same = sym (judged_ends (first_not_good page) first_before first_not_good_lem e) ∙ j in
+          let counted : first_not_good page - (1 + head_vertices page + head_edges page) ≡ count = cc in
           let lines : first_not_good page ≡ 1 + head_vertices page + head_edges page + count = omega (arith, counted, e.1) in
           subst (λ k. GoodBefore page k × Means (is_end page k)) lines (first_before, e)
-      found (inr e) = absurd (true≢false (ap is_good_page (sym j ∙ judged_refuses (first_not_good page) first_before first_not_good_lem e)))
+      found (inr e) = let never = sym j ∙ judged_refuses (first_not_good page) first_before first_not_good_lem e in absurd cc
 
   -- reading a page that is judged good into tables with room gives its head, its number of points, and its words
-  pub read_good : (count : ℕ) (vertices : List ℤ) (edges : List ℕ) (points : List ℤ) → judged_page page ≡ Judged.Good count
+  pub read_good : (count : ℕ) (vertices : List ℤ) (edges : List ℕ) (points : List ℤ) → judged_page page ≡ Ok count
       → Means (room_kept page count (length vertices) (length edges) (length points))
       → read_page page vertices edges points
       ≡ record {
-        page = Page.Sheet (head_of page) count;
+        page = sheet_page (head_of page) count;
         vertices = put (vertex_words page) vertices;
         edges = put (edge_words page) edges;
         points = put (point_words page count) points;
@@ -217,52 +209,48 @@ module _ (page : List ℕ) where
       rw (e, held (room_kept page count (length vertices) (length edges) (length points)) room, read_page)
 
   -- reading a page that is judged refused gives that refusal, and leaves the tables
-  pub read_refused : (number line : ℕ) (vertices : List ℤ) (edges : List ℕ) (points : List ℤ) → judged_page page ≡ Judged.Refused number line
-      → read_page page vertices edges points ≡ record { page = Page.Refused number line; vertices = vertices; edges = edges; points = points }
+  pub read_refused : (number line : ℕ) (vertices : List ℤ) (edges : List ℕ) (points : List ℤ) → judged_page page ≡ refused_page number line
+      → read_page page vertices edges points ≡ record { page = refused_page number line; vertices = vertices; edges = edges; points = points }
   unfolding read_page
   read_refused number line vertices edges points e = rw (e, read_page)
 
   -- reading a good page into a table that is short gives 33, and leaves the tables
-  pub read_short : (count : ℕ) (vertices : List ℤ) (edges : List ℕ) (points : List ℤ) → judged_page page ≡ Judged.Good count
+  pub read_short : (count : ℕ) (vertices : List ℤ) (edges : List ℕ) (points : List ℤ) → judged_page page ≡ Ok count
       → (Means (room_kept page count (length vertices) (length edges) (length points)) → ⊥)
-      → read_page page vertices edges points ≡ record { page = Page.Refused 33 0; vertices = vertices; edges = edges; points = points }
+      → read_page page vertices edges points ≡ record { page = refused_page 33 0; vertices = vertices; edges = edges; points = points }
   unfolding read_page
   read_short count vertices edges points e short =
       rw (e, fails (room_kept page count (length vertices) (length edges) (length points)) short, read_page)
 
   -- an answer with a sheet is that of a good page into tables with room
-  pub read_sheet : (vertices : List ℤ) (edges : List ℕ) (points : List ℤ) (head : Head) (count : ℕ) → (read_page page vertices edges points).page ≡ Page.Sheet head count
-      → (judged_page page ≡ Judged.Good count) × ((head_of page ≡ head) × Means (room_kept page count (length vertices) (length edges) (length points)))
+  pub read_sheet : (vertices : List ℤ) (edges : List ℕ) (points : List ℤ) (head : Head) (count : ℕ) → (read_page page vertices edges points).page ≡ sheet_page head count
+      → (judged_page page ≡ Ok count) × ((head_of page ≡ head) × Means (room_kept page count (length vertices) (length edges) (length points)))
   read_sheet vertices edges points head count e = go (judged_page page) refl
     where
-      found : (n : ℕ) → judged_page page ≡ Judged.Good n
+      found : (n : ℕ) → judged_page page ≡ Ok n
           → Means (room_kept page n (length vertices) (length edges) (length points)) ⊎ (Means (room_kept page n (length vertices) (length edges) (length points)) → ⊥)
-          → (judged_page page ≡ Judged.Good count) × ((head_of page ≡ head) × Means (room_kept page count (length vertices) (length edges) (length points)))
+          → (judged_page page ≡ Ok count) × ((head_of page ≡ head) × Means (room_kept page count (length vertices) (length edges) (length points)))
       found n j (inl room) =
-          let same : Page.Sheet (head_of page) n ≡ Page.Sheet head count = sym (ap (λ r. r.page) (read_good n vertices edges points j room)) ∙ e in
-          let h : head_of page ≡ head = cc in
-          let c : n ≡ count = cc in
-          (j ∙ ap Judged.Good c, (h, subst (λ k. Means (room_kept page k (length vertices) (length edges) (length points))) c room))
+          let same = same_sheet (sym (ap (λ r. r.page) (read_good n vertices edges points j room)) ∙ e) in
+          (j ∙ ap Ok same.1, (same.0, subst (λ k. Means (room_kept page k (length vertices) (length edges) (length points))) same.1 room))
       found n j (inr short) = absurd (sheet_not_refused (sym e ∙ ap (λ r. r.page) (read_short n vertices edges points j short)))
 
-      go : (j : Judged) → judged_page page ≡ j
-          → (judged_page page ≡ Judged.Good count) × ((head_of page ≡ head) × Means (room_kept page count (length vertices) (length edges) (length points)))
-      go (Judged.Good n) j = found n j (decided (room_kept page n (length vertices) (length edges) (length points)))
-      go (Judged.Refused number line) j = absurd (sheet_not_refused (sym e ∙ ap (λ r. r.page) (read_refused number line vertices edges points j)))
+      go : (j : Result ℕ PageRefused) → judged_page page ≡ j
+          → (judged_page page ≡ Ok count) × ((head_of page ≡ head) × Means (room_kept page count (length vertices) (length edges) (length points)))
+      go (Ok n) j = found n j (decided (room_kept page n (length vertices) (length edges) (length points)))
+      go (Err r) j = absurd (sheet_not_refused (sym e ∙ ap (λ r. r.page) (read_refused r.number r.line vertices edges points j)))
 
   -- into tables with room for the page, an answer with a refusal is the page's own
   pub refused_judged : (vertices : List ℤ) (edges : List ℕ) (points : List ℤ) (number line : ℕ)
-      → ((count : ℕ) → judged_page page ≡ Judged.Good count → Means (room_kept page count (length vertices) (length edges) (length points)))
-      → (read_page page vertices edges points).page ≡ Page.Refused number line → judged_page page ≡ Judged.Refused number line
+      → ((count : ℕ) → judged_page page ≡ Ok count → Means (room_kept page count (length vertices) (length edges) (length points)))
+      → (read_page page vertices edges points).page ≡ refused_page number line → judged_page page ≡ refused_page number line
   refused_judged vertices edges points number line room e = go (judged_page page) refl
     where
-      go : (j : Judged) → judged_page page ≡ j → judged_page page ≡ Judged.Refused number line
-      go (Judged.Good n) j = absurd (sheet_not_refused (sym (ap (λ r. r.page) (read_good n vertices edges points j (room n j))) ∙ e))
-      go (Judged.Refused n l) j =
-          let same : Page.Refused n l ≡ Page.Refused number line = sym (ap (λ r. r.page) (read_refused n l vertices edges points j)) ∙ e in
-          let a : n ≡ number = cc in
-          let b : l ≡ line = cc in
-          j ∙ λ i. Judged.Refused (a i) (b i)
+      go : (j : Result ℕ PageRefused) → judged_page page ≡ j → judged_page page ≡ refused_page number line
+      go (Ok n) j = absurd (sheet_not_refused (sym (ap (λ r. r.page) (read_good n vertices edges points j (room n j))) ∙ e))
+      go (Err r) j =
+          let same = same_refusal {A = PageContents} (sym (ap (λ r. r.page) (read_refused r.number r.line vertices edges points j)) ∙ e) in
+          j ∙ λ i. refused_page (same.0 i) (same.1 i)
 
   -- a good page keeps the limits
   pub good_limits : (count : ℕ) → GoodPage page count → Means (counts_within (head_vertices page) (head_edges page) (head_zones page))

@@ -12,22 +12,12 @@ use Rattle.frames.specs.declared.Line.{Line}
 use Rattle.frames.specs.declared.Line.TheVariants.{Frame, Malformed, Unfinished, End}
 use Rattle.frames.specs.Lines.{newline, line_end, kind_at, is_frame, line_at}
 use Rattle.theory.proofs.Decide.{means, denies}
-use Rattle.theory.proofs.Lowest.{lowest_from_next, lowest_from_found, lowest_from_end, lowest_from_on, lowest_from_passes, lowest_from_first}
+use Rattle.theory.proofs.Lowest.{lowest_from_end, lowest_from_on, lowest_from_passes, lowest_from_first}
 
 module _ (page : List ℕ) where
   -- a byte is the newline
   abbrev is_newline : ℕ → Bool
   is_newline i = eqb (get_or page i 0) newline
-
-  -- a line ends at a newline
-  pub line_end_here : (at : ℕ) → at < length page → get_or page at 0 ≡ newline → line_end page at ≡ at
-  unfolding line_end
-  line_end_here at h e = lowest_from_found is_newline (length page) at h (eq-eqb (get_or page at 0) newline e)
-
-  -- a line goes on past any other byte
-  pub line_end_next : (at : ℕ) → at < length page → (get_or page at 0 ≡ newline → ⊥) → line_end page at ≡ line_end page (suc at)
-  unfolding line_end
-  line_end_next at h e = lowest_from_next is_newline (length page) at h (ne_eqb (get_or page at 0) newline e)
 
   -- past the page's end there is no newline
   pub line_end_past : (at : ℕ) → length page ≤ at → line_end page at ≡ at

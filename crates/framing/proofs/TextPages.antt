@@ -11,10 +11,9 @@ use Rattle.subdivision.specs.Formula.{Means}
 use Rattle.subdivision.specs.Limits.{origin}
 use Rattle.subdivision.specs.Lists.{tab, put}
 use Rattle.subdivision.specs.Sheet.{Sheet, vertex_count, edge_count, zone_count}
-use Rattle.frames.specs.declared.Page.{Page}
 use Rattle.frames.specs.Digits.{signed_of}
 use Rattle.frames.specs.Pages.{head_vertices, head_edges, is_good, is_end, GoodBefore, GoodPage}
-use Rattle.frames.specs.Pages.{number_of, head_of, vertex_words, edge_words, point_words, room_kept}
+use Rattle.frames.specs.Pages.{number_of, sheet_page, head_of, vertex_words, edge_words, point_words, room_kept}
 use Rattle.frames.specs.Texts.{frame_text, frames_text, pair_numbers, edge_numbers, head_numbers}
 use Rattle.frames.specs.Texts.{page_text, writable_counts, sheet_head, ReadsBack}
 use Rattle.framing.proofs.FrameLengths.{text_length}
@@ -211,7 +210,7 @@ module _ (s : Sheet) (points : List ℤ) (kept : Means (writable_counts s points
       (good_judged (page_text s points) (length points / 2) text_good)
       (room_kept_lem (length vertices) (length edges) (length points') hv he hp)
       ∙ λ i. record {
-        page = Page.Sheet (head_back i) (length points / 2);
+        page = sheet_page (head_back i) (length points / 2);
         vertices = put (vertices_read i) vertices;
         edges = put (edges_read i) edges;
         points = put (points_read i) points';

@@ -1,36 +1,17 @@
-ghost use Rattle.std.specs.Prelude.{◌≡◌, ◌*◌, ◌-◌, ◌<◌, min, ltb};
+ghost use Rattle.std.specs.Prelude.{◌≡◌, ◌*◌, ◌<◌, ltb};
 ghost use Rattle.subdivision.specs.Formula.{holds};
 ghost use Rattle.subdivision.specs.Lines.{covers, point_part, edge_part, side_at, overlap_west, overlap_east, conflict};
 ghost use Rattle.geometry.specs.Bounds.{PartsBounded};
 ghost use Rattle.geometry.specs.Crossing.{order_on, turned, broken, is_up, lower_beside};
 
+use std::cmp::Ordering;
 use subdivision::{Segment, Side};
 
 // An edge covers the abscissa x: half open, and closed at the eastern margin.
 pub fn covers(margin: u32, g: Segment, x: u32) -> bool
     ensures { result ≡ holds (covers margin g x) }
 {
-    let xw = g.xw;
-    let xe = g.xe;
-    if xw <= x {
-        if x < xe {
-            return true;
-        }
-    }
-    if x == margin {
-        return xe == margin;
-    }
-    false
-}
-
-// a less b, or 0 where b is larger.
-fn less(a: u32, b: u32) -> u64
-    ensures { result ≡ a - b }
-{
-    if a < b {
-        return 0;
-    }
-    (a - b) as u64
+    (g.xw <= x && x < g.xe) || (x == margin && g.xe == margin)
 }
 
 // The two numbers whose difference is the signed number of document 01's formula.
@@ -46,9 +27,9 @@ pub fn parts(g: Segment, x: u32, y: u32) -> Scaled
     ensures scaled { (result.point ≡ point_part g y) × (result.edge ≡ edge_part g x) }
     ensures bounded { PartsBounded g x y result.point result.edge }
 {
-    let width = less(g.xe, g.xw);
-    let right = less(g.xe, x);
-    let left = less(x, g.xw);
+    let width = g.xe.saturating_sub(g.xw) as u64;
+    let right = g.xe.saturating_sub(x) as u64;
+    let left = x.saturating_sub(g.xw) as u64;
     Scaled {
         edge: (g.yw as u64) * right + (g.ye as u64) * left,
         point: (y as u64) * width,
@@ -59,26 +40,12 @@ pub fn parts(g: Segment, x: u32, y: u32) -> Scaled
 pub fn side(g: Segment, x: u32, y: u32) -> Side
     ensures { result ≡ side_at g x y }
 {
-    let p = parts(g, x, y);
-    let point = p.point;
-    let edge = p.edge;
-    if point < edge {
-        return Side::Below;
+    let parts = parts(g, x, y);
+    match parts.point.cmp(&parts.edge) {
+        Ordering::Less => Side::Below,
+        Ordering::Equal => Side::On,
+        Ordering::Greater => Side::Above,
     }
-    if edge < point {
-        return Side::Above;
-    }
-    Side::On
-}
-
-// The smaller of two numbers.
-pub fn smaller(a: u32, b: u32) -> u32
-    ensures { result ≡ min a b }
-{
-    if b < a {
-        return b;
-    }
-    a
 }
 
 // Whether two edges overlap: both run west to east, and each begins before the other ends. Nothing branches on the way.
@@ -127,22 +94,12 @@ fn order_east(g: Segment, h: Segment) -> Side
 fn broken(west: Side, east: Side, fork: bool, meet: bool) -> bool
     ensures { result ≡ broken west east fork meet }
 {
-    match west {
-        Side::Below => match east {
-            Side::Below => false,
-            Side::On => !meet,
-            Side::Above => true,
-        },
-        Side::On => match east {
-            Side::Below => !fork,
-            Side::On => true,
-            Side::Above => !fork,
-        },
-        Side::Above => match east {
-            Side::Below => true,
-            Side::On => !meet,
-            Side::Above => false,
-        },
+    match (west, east) {
+        (Side::Below, Side::Below) | (Side::Above, Side::Above) => false,
+        (Side::Below, Side::Above) | (Side::Above, Side::Below) => true,
+        (Side::On, Side::On) => true,
+        (Side::On, Side::Below | Side::Above) => !fork,
+        (Side::Below | Side::Above, Side::On) => !meet,
     }
 }
 
@@ -150,35 +107,33 @@ fn broken(west: Side, east: Side, fork: bool, meet: bool) -> bool
 pub fn conflict(g: Segment, h: Segment) -> bool
     ensures { result ≡ holds (conflict g h) }
 {
-    if !overlap(g, h) {
-        return false;
-    }
-    let west = order_west(g, h);
-    let east = order_east(g, h);
-    broken(west, east, g.west == h.west, g.east == h.east)
+    overlap(g, h)
+        && broken(
+            order_west(g, h),
+            order_east(g, h),
+            g.west == h.west,
+            g.east == h.east,
+        )
 }
 
 // Of two edges that start at one vertex (eastern) or end at one, g is the lower beside it: decided by
-// a side test at the other end of their overlap. False where they do not overlap.
+// a side test at the other end of their overlap. False where they do not overlap. `eastern` is the definition's argument: two
+// functions would be twins.
 pub fn lower_beside(eastern: bool, g: Segment, h: Segment) -> bool
     ensures { result ≡ holds (lower_beside eastern g h) }
 {
     if !overlap(g, h) {
-        return false;
+        false
+    } else if eastern {
+        is_above(order_east(g, h))
+    } else {
+        is_above(order_west(g, h))
     }
-    if eastern {
-        return is_above(order_east(g, h));
-    }
-    is_above(order_west(g, h))
 }
 
 // Whether a side is above.
 fn is_above(s: Side) -> bool
     ensures { result ≡ is_up s }
 {
-    match s {
-        Side::Below => false,
-        Side::On => false,
-        Side::Above => true,
-    }
+    matches!(s, Side::Above)
 }

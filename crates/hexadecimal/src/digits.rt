@@ -1,56 +1,38 @@
-ghost use Rattle.std.specs.Prelude.{◌≡◌, ◌+◌, ◌<◌, ◌≤◌, ◌^◌, length, get_or};
+ghost use Rattle.std.specs.Prelude.{◌≡◌, ◌+◌, ◌<◌, ◌≤◌, ◌^◌, length};
 ghost use Rattle.subdivision.specs.Formula.{holds};
 ghost use Rattle.frames.specs.Digits.{is_digit, digit_value, number};
 ghost use Rattle.frames.specs.Lines.{is_hexadecimal};
+
+use numbers::words::entry_or;
 
 // Whether a byte is a lower-case hexadecimal digit.
 fn is_digit(b: u8) -> bool
     ensures { result ≡ holds (is_digit b) }
 {
-    if b < 48 {
-        return false;
-    }
-    if b <= 57 {
-        return true;
-    }
-    if b < 97 {
-        return false;
-    }
-    b <= 102
+    matches!(b, b'0'..=b'9' | b'a'..=b'f')
 }
 
 // The value of a digit; of a byte that is none, some number below 16.
 fn digit_value(b: u8) -> u32
     ensures { (result ≡ digit_value b) × (result < 16) }
 {
-    if b <= 57 {
-        return (b as u32) % 16;
+    let code = u32::from(b);
+    if b <= b'9' {
+        code % 16
+    } else {
+        (code + 9) % 16
     }
-    (b as u32 + 9) % 16
 }
 
-// The byte at a place of a page: 0 past its end.
-fn byte(page: &[u8], at: usize) -> u8
-    ensures { result ≡ get_or page.now at 0 }
-{
-    if at < page.len() {
-        return page[at];
-    }
-    0
-}
-
-// The number that so many digits from a place on make, the highest first.
+// The number that so many digits from a place on make, the highest first. Past the page's end stands 0.
 pub fn number(page: &[u8], at: usize, count: usize) -> u32
     requires count_bound { at + count < 2 ^ 64 }
     requires count_bound_2 { count ≤ 8 }
     ensures { result ≡ number page.now at count }
 {
-    let mut value = 0u32;
-    let mut i = 0;
-    while i < count {
-        let b = byte(page, at + i);
-        value = 16 * value + digit_value(b);
-        i += 1;
+    let mut value = 0;
+    for i in 0..count {
+        value = 16 * value + digit_value(entry_or(page, at + i, 0));
     }
     value
 }
@@ -60,13 +42,5 @@ pub fn hexadecimal(page: &[u8], at: usize, end: usize) -> bool
     requires { (at ≤ end) × (end ≤ length page.now) }
     ensures { result ≡ holds (is_hexadecimal page.now at end) }
 {
-    let mut i = at;
-    while i < end {
-        let b = page[i];
-        if !is_digit(b) {
-            return false;
-        }
-        i += 1;
-    }
-    true
+    page[at..end].iter().all(|b| is_digit(*b))
 }

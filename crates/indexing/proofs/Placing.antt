@@ -1,35 +1,42 @@
 -- The places of a line's zones, written from its last place to its first.
 use mathlib.Core.Path.{◌≡◌, refl, ap, ◌∙◌}
 use mathlib.Core.Bool.{Bool, true, false}
-use mathlib.Core.List.{List, [], ◌∷◌}
-use Prim.Native.Nat.{ℕ, zero, suc, ◌+◌, ◌-◌, ◌<◌, ◌≤◌}
+use mathlib.Core.List.{List, [], ◌∷◌, ◌++◌, append_assoc}
+use Prim.Native.Nat.{ℕ, zero, suc, ◌+◌, ◌<◌}
 use native.Mathlib.Nat.{zero-lt-suc, add-zero, zero-add}
 use native.Mathlib.Omega.{arith}
 use lib.Dec.{ltb, eqb, leb-suc-suc}
-use lib.ListN.{length, get_or, set, drop, length-set}
-use lib.Seq.{drop-cons, get_or-set_same, get_or-set_other}
+use lib.ListN.{length, get_or, set, length-set}
+use lib.Seq.{get_or-set_same, get_or-set_other}
 use borrow.Author.Tests.{eqb-true, eqb-false, lt-ltb}
 use Rattle.subdivision.specs.Lists.{tab}
 use Rattle.subdivision.specs.ZoneLine.{position}
 use Rattle.theory.proofs.Lists.{is_tab}
+use Rattle.theory.proofs.Position.{length_snoc}
+use Rattle.std.proofs.lemmas.List.{nil_from_length}
 
 -- a table with the places of a line's zones written to it, the line's first place being `at`
 abbrev pub placing : ℕ → List ℕ → List ℕ → List ℕ
 placing at [] place = place
 placing at (z ∷ line) place = set (placing (suc at) line place) z at
 
--- a turn of the loop that goes down
-pub placing_down : (line before place : List ℕ) (p : ℕ) → 0 < p → p ≤ length line → place ≡ placing p (drop p line) before
-    → set place (get_or line (p - 1) 0) (p - 1) ≡ placing (p - 1) (drop (p - 1) line) before
-placing_down line before place p h l e =
-    let here : p - 1 < length line = omega arith in
-    let next : suc (p - 1) ≡ p = omega arith in
-    let split : drop (p - 1) line ≡ get_or line (p - 1) 0 ∷ drop p line =
-    drop-cons line (p - 1) 0 here ∙ ap (λ (k : ℕ). get_or line (p - 1) 0 ∷ drop k line) next in
-    rw (e, split, next)
+-- a turn of the loop that goes down: the last zone of what is left has its place written
+pub placing_down : (line rest left done before place : List ℕ) (z p : ℕ) → line ≡ rest ++ done → rest ≡ left ++ (z ∷ []) → p ≡ length left
+    → place ≡ placing (length rest) done before
+    → (line ≡ left ++ (z ∷ done)) × (set place z p ≡ placing (length left) (z ∷ done) before)
+placing_down line rest left done before place z p whole split at e =
+    let long : length rest ≡ suc (length left) = ap length split ∙ length_snoc z left in
+    (whole ∙ rw split (append_assoc left (z ∷ []) done), rw (e, long, at))
+
+-- at the end nothing is left, and the places of the whole line are written
+pub placing_end : (line rest done before place : List ℕ) → line ≡ rest ++ done → length rest ≡ 0 → place ≡ placing (length rest) done before
+    → place ≡ placing 0 line before
+placing_end line rest done before place whole none e =
+    let empty : rest ≡ [] = nil_from_length rest none in
+    rw (e, whole, empty)
 
 -- the table keeps its length
-pub length_placing : (at : ℕ) (line place : List ℕ) → length (placing at line place) ≡ length place
+length_placing : (at : ℕ) (line place : List ℕ) → length (placing at line place) ≡ length place
 length_placing at [] place = refl
 length_placing at (z ∷ line) place = length-set (placing (suc at) line place) z at ∙ length_placing (suc at) line place
 

@@ -1,8 +1,9 @@
 -- The paper's numbers and values for each case of an answer.
-use Rattle.std.specs.Prelude.{List, [], ◌∷◌, ℕ}
-use Rattle.ledger.specs.declared.Month.{Month}
+use Rattle.subdivision.specs.Results.{Reply, refused, reply_of}
+use Rattle.std.specs.Prelude.{List, [], ◌∷◌, ℕ, Ok, Err}
+use Rattle.ledger.specs.Results.{Month, listed}
 
 -- the refusal's number and the named item, 0 0 where there is none; then the samples on a boundary and those off the sheet
 unfoldable pub month_values : Month → List ℕ
-month_values (Month.Judged boundary off) = 0 ∷ 0 ∷ boundary ∷ off ∷ []
-month_values (Month.Refused number item) = number ∷ item ∷ 0 ∷ 0 ∷ []
+month_values (Ok m) = 0 ∷ 0 ∷ m.boundary ∷ m.off ∷ []
+month_values (Err e) = e.number ∷ e.item ∷ 0 ∷ 0 ∷ []

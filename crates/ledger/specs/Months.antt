@@ -1,10 +1,10 @@
 -- A month: its refusals in order, its lists, its zone results and its means. Document 02, P2, from "A sample in a zone whose own detection
 -- limit" on.
-use Rattle.std.specs.Prelude.{Bool, true, false, not, List, [], ◌∷◌, ◌++◌, ℕ, zero, suc, ◌+◌, ◌*◌, eqb, Float, ℤ, pos, length, get_or, replicate}
+use Rattle.std.specs.Prelude.{Bool, true, false, not, List, [], ◌∷◌, ◌++◌, ℕ, zero, suc, ◌+◌, ◌*◌, eqb, Float, ℤ, pos, length, get_or, replicate, Ok, Err}
 use Rattle.std.specs.Float.{nan}
 use Rattle.std.specs.Float.Ieee.{lt}
+use Rattle.subdivision.specs.Results.{Reply, refused, reply_of}
 use Rattle.subdivision.specs.declared.Answer.{Answer}
-use Rattle.subdivision.specs.declared.Verdict.{Verdict}
 use Rattle.subdivision.specs.Formula.{Formula, is_at_most, is_equal, both}
 use Rattle.subdivision.specs.Limits.{max_examined}
 use Rattle.subdivision.specs.Lists.{put}
@@ -14,7 +14,7 @@ use Rattle.subdivision.specs.Calls.{reading, searching}
 use Rattle.ledger.specs.declared.Reading.{Reading}
 use Rattle.ledger.specs.declared.Tally.{Tally}
 use Rattle.ledger.specs.declared.Judgement.{Judgement}
-use Rattle.ledger.specs.declared.Month.{Month}
+use Rattle.ledger.specs.Results.{Month, listed}
 use Rattle.ledger.specs.Readings.{passes, reading_of, taken, reading_sound, permit_of, permit_sound}
 use Rattle.ledger.specs.Tallies.{none_entered, entering, judge, judgement_word, write_mean}
 
@@ -68,42 +68,42 @@ module _ (t : Samples) where
 -- ---- where an answer puts a sample
 
 -- in zone z
-abbrev pub in_zone : ℕ → Answer → Bool
-in_zone z (Answer.Vertex v) = false
-in_zone z (Answer.Edge e) = false
-in_zone z (Answer.Zone y) = eqb y z
-in_zone z (Answer.Refused number item) = false
+abbrev pub in_zone : ℕ → Reply → Bool
+in_zone z (Ok (Answer.Vertex v)) = false
+in_zone z (Ok (Answer.Edge e)) = false
+in_zone z (Ok (Answer.Zone y)) = eqb y z
+in_zone z (Err e) = false
 
 -- on an edge or vertex
-abbrev pub on_boundary : Answer → Bool
-on_boundary (Answer.Vertex v) = true
-on_boundary (Answer.Edge e) = true
-on_boundary (Answer.Zone z) = false
-on_boundary (Answer.Refused number item) = false
+abbrev pub on_boundary : Reply → Bool
+on_boundary (Ok (Answer.Vertex v)) = true
+on_boundary (Ok (Answer.Edge e)) = true
+on_boundary (Ok (Answer.Zone z)) = false
+on_boundary (Err e) = false
 
 -- turned away by 20
-abbrev pub off_sheet : Answer → Bool
-off_sheet (Answer.Vertex v) = false
-off_sheet (Answer.Edge e) = false
-off_sheet (Answer.Zone z) = false
-off_sheet (Answer.Refused number item) = eqb number 20
+abbrev pub off_sheet : Reply → Bool
+off_sheet (Ok (Answer.Vertex v)) = false
+off_sheet (Ok (Answer.Edge e)) = false
+off_sheet (Ok (Answer.Zone z)) = false
+off_sheet (Err e) = eqb e.number 20
 
 -- the search's 22
-abbrev pub damaged : Answer → Bool
-damaged (Answer.Vertex v) = false
-damaged (Answer.Edge e) = false
-damaged (Answer.Zone z) = false
-damaged (Answer.Refused number item) = eqb number 22
+abbrev pub damaged : Reply → Bool
+damaged (Ok (Answer.Vertex v)) = false
+damaged (Ok (Answer.Edge e)) = false
+damaged (Ok (Answer.Zone z)) = false
+damaged (Err e) = eqb e.number 22
 
 -- a detection limit above the floor of the zone in which the answer puts it
-abbrev pub above_floor : List Float → Float → Answer → Bool
-above_floor permits limit (Answer.Vertex v) = false
-above_floor permits limit (Answer.Edge e) = false
-above_floor permits limit (Answer.Zone z) = lt (permit_of permits z).floor limit
-above_floor permits limit (Answer.Refused number item) = false
+abbrev pub above_floor : List Float → Float → Reply → Bool
+above_floor permits limit (Ok (Answer.Vertex v)) = false
+above_floor permits limit (Ok (Answer.Edge e)) = false
+above_floor permits limit (Ok (Answer.Zone z)) = lt (permit_of permits z).floor limit
+above_floor permits limit (Err e) = false
 
 -- 41 is given for a reading with this answer: it is below detection, in a zone, and its own limit is above that zone's floor
-abbrev pub too_coarse : List Float → Reading → Answer → Bool
+abbrev pub too_coarse : List Float → Reading → Reply → Bool
 too_coarse permits Reading.NotTaken a = false
 too_coarse permits (Reading.Measured value) a = false
 too_coarse permits (Reading.BelowDetection limit) a = above_floor permits limit a
@@ -127,13 +127,13 @@ room_kept t permits s lent =
 
 -- ---- a month, by what is answered for each sample
 
-module _ (answer : ℕ → Answer) (t : Samples) where
+module _ (answer : ℕ → Reply) (t : Samples) where
   -- sample k is taken, and its answer passes the test
-  abbrev pub taken_and : (Answer → Bool) → ℕ → Bool
+  abbrev pub taken_and : (Reply → Bool) → ℕ → Bool
   taken_and test k = elim (taken (reading_at t k)) [ true ↦ test (answer k) | false ↦ false ]
 
   -- the taken samples whose answers pass the test, in sample order
-  abbrev pub samples_that : (Answer → Bool) → List ℕ
+  abbrev pub samples_that : (Reply → Bool) → List ℕ
   samples_that test = those (taken_and test) (sample_count t)
 
   -- what is entered for zone z: its taken samples, in sample order
@@ -163,7 +163,7 @@ module _ (answer : ℕ → Answer) (t : Samples) where
     abbrev pub entered : Sheet → Lent → Left
     entered s lent =
         record {
-          month = Month.Judged (length (samples_that on_boundary)) (length (samples_that off_sheet));
+          month = listed (length (samples_that on_boundary)) (length (samples_that off_sheet));
           lent =
               record {
                 boundary = put (samples_that on_boundary) lent.boundary;
@@ -191,18 +191,18 @@ module _ (answer : ℕ → Answer) (t : Samples) where
     unfoldable pub month_by : Sheet → ℕ → Lent → Left
     month_by s words lent =
         elim (judged (month_refusals s words lent)) [
-          | Verdict.Refused number item ↦ record { month = Month.Refused number item; lent = lent }
-          | Verdict.Passed ↦ entered s lent
+          | Err e ↦ record { month = Err e; lent = lent }
+          | Ok u ↦ entered s lent
         ]
 
 -- ---- the month's answers: by the quick search, and by the plain reading
 
 -- what the quick search says of sample k, over a trail of its own
-unfoldable pub searched_at : Sheet → List ℕ → Samples → ℕ → Answer
-searched_at s index t k = (searching s index (sample_x t k) (sample_y t k) (replicate max_examined 0)).found.answer
+unfoldable pub searched_at : Sheet → List ℕ → Samples → ℕ → Reply
+searched_at s index t k = reply_of (searching s index (sample_x t k) (sample_y t k) (replicate max_examined 0)).found
 
 -- what the plain reading says of sample k
-abbrev pub read_at : Sheet → Samples → ℕ → Answer
+abbrev pub read_at : Sheet → Samples → ℕ → Reply
 read_at s t k = reading s (sample_x t k) (sample_y t k)
 
 -- the month's call: the samples are placed by the quick search

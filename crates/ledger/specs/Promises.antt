@@ -1,12 +1,13 @@
 -- What a good month promises beside its equation: where its samples are, what one value gives, and what samples outside every zone change.
-use Rattle.std.specs.Prelude.{◌≡◌, true, false, List, [], ◌∷◌, ◌⊎◌, ℕ, zero, suc, ◌+◌, ◌*◌, ◌<◌, eqb, Float, length, get_or}
+use Rattle.std.specs.Prelude.{◌≡◌, true, false, List, [], ◌∷◌, ◌⊎◌, ℕ, zero, suc, ◌+◌, ◌*◌, ◌<◌, eqb, Float, length, get_or, Ok, Err}
 use Rattle.std.specs.Float.{nan}
+use Rattle.subdivision.specs.Results.{Reply, refused, reply_of}
 use Rattle.subdivision.specs.declared.Answer.{Answer}
 use Rattle.subdivision.specs.Lists.{put}
 use Rattle.subdivision.specs.Sheet.{Sheet, zone_count}
 use Rattle.subdivision.specs.Accepted.{Accepted}
 use Rattle.subdivision.specs.Engine.{HoldsIndex}
-use Rattle.ledger.specs.declared.Month.{Month}
+use Rattle.ledger.specs.Results.{Month, listed}
 use Rattle.ledger.specs.Readings.{taken, enters_at}
 use Rattle.ledger.specs.Months.{Samples, Lent, Left, sample_count, reading_at, in_zone, on_boundary, off_sheet, taken_and, samples_that, result_words, means_left, month_by, searched_at, read_at}
 
@@ -20,7 +21,7 @@ abbrev pub sum_below : (ℕ → ℕ) → ℕ → ℕ
 sum_below f zero = 0
 sum_below f (suc k) = sum_below f k + f k
 
-module _ (answer : ℕ → Answer) (t : Samples) where
+module _ (answer : ℕ → Reply) (t : Samples) where
   -- how often sample k is among the samples of the zones, the boundary list and the off-sheet list, together
   abbrev pub appearances : ℕ → ℕ → ℕ
   appearances n k =
@@ -43,7 +44,7 @@ module _ (answer : ℕ → Answer) (t : Samples) where
   Outside k = (z : ℕ) → taken_and answer t (in_zone z) k ≡ false
 
 -- two months with as many samples, of which each has the same reading and answer in both, or is in no zone in either
-abbrev pub SameInZones : (ℕ → Answer) → Samples → (ℕ → Answer) → Samples → Type 0
+abbrev pub SameInZones : (ℕ → Reply) → Samples → (ℕ → Reply) → Samples → Type 0
 SameInZones answer t other u =
     (sample_count t ≡ sample_count u)
     × ((k : ℕ) → k < sample_count t → ((reading_at t k ≡ reading_at u k) × (answer k ≡ other k)) ⊎ (Outside answer t k × Outside other u k))
@@ -52,7 +53,7 @@ module _ (s : Sheet) (index : List ℕ) (t : Samples) (permits : List Float) (le
   -- samples that are in no zone change no zone's count, mean or judgement: what is left is what any month leaves that differs in such samples alone
   abbrev pub OutsideChangesNothing : List ℕ → List Float → Type 0
   OutsideChangesNothing results means =
-      (other : ℕ → Answer) (u : Samples) → SameInZones (searched_at s index t) t other u
+      (other : ℕ → Reply) (u : Samples) → SameInZones (searched_at s index t) t other u
       → (results ≡ put (result_words other u permits (zone_count s)) lent.results) × (means ≡ means_left other u permits lent.means (zone_count s))
 
   -- on an accepted sheet, with an index that holds what opening writes, what is left is the month by the plain reading

@@ -1,7 +1,8 @@
 -- Two wrong ledgers, each told apart from the one defined: samples entered from the last to the first, and a reading below detection entered at the floor.
-use Rattle.std.specs.Prelude.{◌≡◌, refl, true, false, List, [], ◌∷◌, ℕ, Float}
+use Rattle.std.specs.Prelude.{◌≡◌, refl, true, false, List, [], ◌∷◌, ℕ, Float, Ok, Err}
 use Rattle.std.proofs.Common.{sym, ap, ◌∙◌, subst, true≢false}
 use Rattle.std.specs.Float.Ieee.{add, div, eq, of_int, of_bits}
+use Rattle.subdivision.specs.Results.{Reply, refused, reply_of}
 use Rattle.subdivision.specs.Dyadic.{bits, top_bit, low_bit, lca}
 use Rattle.subdivision.specs.Lowest.{lowest}
 use Rattle.subdivision.specs.Descent.{descent, index_descent}

@@ -1,14 +1,15 @@
 -- Worked months on the lens sheet of document 01, computed from the definitions that the month's contract cites.
-use Rattle.std.specs.Prelude.{◌≡◌, refl, List, [], ◌∷◌, ℕ, pos, Float, set, take}
+use Rattle.std.specs.Prelude.{◌≡◌, refl, List, [], ◌∷◌, ℕ, pos, Float, set, take, Ok, Err}
 use Rattle.std.specs.Float.{nan, binary64}
 use Rattle.std.specs.Float.Ieee.{add, div, lt, le, of_int, of_bits}
+use Rattle.subdivision.specs.Results.{Reply, refused, reply_of}
 use Rattle.subdivision.specs.Dyadic.{bits, top_bit, low_bit, lca}
 use Rattle.subdivision.specs.Lowest.{lowest}
 use Rattle.subdivision.specs.Sheet.{Sheet, sheet_of}
 use Rattle.subdivision.specs.Descent.{descent, index_descent}
 use Rattle.subdivision.specs.Calls.{searching}
 use Rattle.subdivision.specs.WorkedTable.{lens, lens_index}
-use Rattle.ledger.specs.declared.Month.{Month}
+use Rattle.ledger.specs.Results.{Month, listed}
 use Rattle.ledger.specs.Readings.{nothing, in_range, reading_of}
 use Rattle.ledger.specs.Tallies.{judge}
 use Rattle.ledger.specs.Months.{Samples, Lent, lent_of, searched_at, month_by, month_of}
@@ -46,7 +47,7 @@ lent = lent_of (90 ∷ 91 ∷ 92 ∷ 93 ∷ 94 ∷ 95 ∷ 96 ∷ []) (80 ∷ 81 
 -- the month: two samples on boundaries, one off the sheet; zone 1 has three, one below detection, and is over by its last bit, which depends on the order
 pub worked_month
     : month_of lens lens_index samples permits lent
-    ≡ left_of (Month.Judged 2 1) (1 ∷ 3 ∷ 92 ∷ 93 ∷ 94 ∷ 95 ∷ 96 ∷ []) (4 ∷ 81 ∷ 82 ∷ 83 ∷ 84 ∷ 85 ∷ 86 ∷ [])
+    ≡ left_of (listed 2 1) (1 ∷ 3 ∷ 92 ∷ 93 ∷ 94 ∷ 95 ∷ 96 ∷ []) (4 ∷ 81 ∷ 82 ∷ 83 ∷ 84 ∷ 85 ∷ 86 ∷ [])
     (0 ∷ 0 ∷ 0 ∷ 3 ∷ 1 ∷ 2 ∷ 0 ∷ 0 ∷ 0 ∷ 79 ∷ []) (one_tenth ∷ of_bits binary64 0x3fc9_9999_9999_999b ∷ one_tenth ∷ one_tenth ∷ [])
 unfolding samples permits lent lens lens_index month_by searched_at searching descent index_descent bits top_bit low_bit lca lowest in_range reading_of judge add div lt le of_int of_bits
 worked_month = refl
@@ -78,7 +79,7 @@ pub worked_refusals
     ∷ says lens (set lens_index 13 9) samples permits lent
     ∷ says lens lens_index (with_value_at 6 (of_bits binary64 0x3fd3_3333_3333_3334)) permits lent
     ∷ []
-    ≡ Month.Refused 1 0 ∷ Month.Refused 2 0 ∷ Month.Refused 3 0 ∷ Month.Refused 43 0 ∷ Month.Refused 42 1 ∷ Month.Refused 40 3 ∷ Month.Refused 40 4 ∷ Month.Refused 40 5 ∷
-    Month.Refused 22 0 ∷ Month.Refused 41 6 ∷ []
+    ≡ refused 1 0 ∷ refused 2 0 ∷ refused 3 0 ∷ refused 43 0 ∷ refused 42 1 ∷ refused 40 3 ∷ refused 40 4 ∷ refused 40 5 ∷
+    refused 22 0 ∷ refused 41 6 ∷ []
 unfolding samples permits lent lens lens_index month_by searched_at searching descent index_descent bits top_bit low_bit lca lowest in_range reading_of judge add div lt le of_int of_bits
 worked_refusals = refl

@@ -5,8 +5,8 @@
 // A month has at most so many samples.
 pub const MAX_SAMPLES: usize = 4096;
 
-// What a sample's reading is, in mg/L.
-#[derive(Clone, Copy)]
+// What a sample's reading is, in mg/L: the enum that document 02 names.
+#[derive(Clone, Copy, Debug, PartialEq)]
 pub enum Reading {
     NotTaken,
     // The value.
@@ -18,7 +18,7 @@ pub enum Reading {
 }
 
 // The permit of a zone, in mg/L: the line that its mean may not be over, and its detection floor.
-#[derive(Clone, Copy)]
+#[derive(Clone, Copy, Debug, PartialEq)]
 pub struct Permit {
     pub limit: f64,
     pub floor: f64,
@@ -26,7 +26,7 @@ pub struct Permit {
 
 // The readings entered for a zone: how many, how many of them below detection, and the sum of their values, which says nothing
 // where none is entered.
-#[derive(Clone, Copy)]
+#[derive(Clone, Copy, Debug, PartialEq)]
 pub struct Tally {
     pub count: u32,
     pub below: u32,
@@ -34,18 +34,17 @@ pub struct Tally {
 }
 
 // What a zone's month is: the mean, where there is one, against the limit.
-#[derive(Clone, Copy)]
+#[derive(Clone, Copy, Debug, PartialEq)]
 pub enum Judgement {
     NoMean,
     Within(f64),
     Over(f64),
 }
 
-// What a month gives back beside the lists, the zone results and the means.
-#[derive(Clone, Copy)]
-pub enum Month {
-    // So many samples on a boundary, and so many off the sheet.
-    Judged(u32, u32),
-    // The refusal's number and the item that it names, 0 where it names none.
-    Refused(u32, u32),
+// What a judged month gives back beside the lists, the zone results and the means: so many samples on a boundary, and so many off the
+// sheet.
+#[derive(Clone, Copy, Debug, PartialEq, Eq)]
+pub struct Listed {
+    pub boundary: u32,
+    pub off: u32,
 }

@@ -1,2 +1,3 @@
--- What the private functions of `line` promise.
+-- What the functions of `line` promise.
+pub mod Grouped
 pub mod Waiting

@@ -1,3 +1,2 @@
--- Laws of what the private functions of `marks` say of their results, a file a subject.
+-- Laws of what the private functions of `marks` say of their results.
 pub mod Marks
-pub mod Regular

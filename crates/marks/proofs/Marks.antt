@@ -13,12 +13,13 @@ use lib.ListN.{length, get_or, set, replicate, length-set, length-replicate, get
 use lib.Seq.{ext_get_or, get_or-set_same, get_or-set_other}
 use borrow.Author.Tests.{eqb-true, eqb-false}
 use Rattle.subdivision.specs.Formula.{Formula, holds, Means}
-use Rattle.subdivision.specs.Lowest.{lowest}
+use Rattle.std.specs.Prelude.{None}
+use Rattle.subdivision.specs.Lowest.{found, first}
 use Rattle.subdivision.specs.Sheet.{sheet_of, shifted, vertex_x}
 use Rattle.subdivision.specs.Rules.{vertex_regular, zone_named, empty_sheet}
 use Rattle.theory.proofs.Decide.{means, held, denies, fails}
 use Rattle.theory.proofs.Lists.{length_tab, get_d_tab}
-use Rattle.theory.proofs.Lowest.{lowest_same, lowest_none}
+use Rattle.theory.proofs.Lowest.{lowest_same, first_nowhere}
 use Rattle.marks.specs.Marks.{named_at, marked}
 use Rattle.marks.specs.Regular.{regular}
 
@@ -80,13 +81,13 @@ module _ (west east : ℤ) (vertices : List ℤ) (edges : List ℕ) (size : ℕ)
   regular_by_marks v h =
       rw (mark_tells edges 1 (length edges / 4) size v h, mark_tells edges 0 (length edges / 4) size v h) (simp add-zero)
 
-  -- the lowest vertex that breaks rule 3, by those marks
+  -- the first vertex that breaks rule 3, by those marks
   pub irregular_by_marks : (n w e : ℕ) (western eastern : List Bool) → n ≤ size → w ≡ shifted west → e ≡ shifted east
       → western ≡ marked edges 1 (length edges / 4) (replicate size false) → eastern ≡ marked edges 0 (length edges / 4) (replicate size false)
-      → lowest (λ v. not (regular w e (vertex_x vertices v) (get_or western v false) (get_or eastern v false))) n
-      ≡ lowest (λ v. not (holds (vertex_regular (sheet_of west east vertices edges 0) v))) n
+      → first (λ v. not (regular w e (vertex_x vertices v) (get_or western v false) (get_or eastern v false))) n
+      ≡ first (λ v. not (holds (vertex_regular (sheet_of west east vertices edges 0) v))) n
   irregular_by_marks n w e western eastern h p q r s =
-      rw (p, q, r, s) (lowest_same _ _ n (λ v k. ap not (regular_by_marks v (omega arith))))
+      rw (p, q, r, s) (ap (found n) (lowest_same _ _ n (λ v k. ap not (regular_by_marks v (omega arith)))))
 
 module _ (vertices : List ℤ) (edges : List ℕ) (zones size : ℕ) where
   -- rule 6 at a zone, by the marks of the zones above and below, where the sheet is not the one excepted
@@ -116,15 +117,15 @@ module _ (vertices : List ℤ) (edges : List ℕ) (zones size : ℕ) where
           not_named (inl (e, k, inl a)) = denies (named_at edges 2 m z) q (e, k, a)
           not_named (inl (e, k, inr b)) = denies (named_at edges 3 m z) p (e, k, b)
 
-  -- the lowest zone that breaks rule 6, by those marks
+  -- the first zone that breaks rule 6, by those marks
   pub unnamed_by_marks : (above named : List Bool) → zones ≤ size → holds (empty_sheet (sheet_of (pos 0) (pos 0) vertices edges zones)) ≡ false
       → above ≡ marked edges 2 (length edges / 4) (replicate size false) → named ≡ marked edges 3 (length edges / 4) above
-      → lowest (λ z. not (get_or named z false)) zones ≡ lowest (λ z. not (holds (zone_named (sheet_of (pos 0) (pos 0) vertices edges zones) z))) zones
+      → first (λ z. not (get_or named z false)) zones ≡ first (λ z. not (holds (zone_named (sheet_of (pos 0) (pos 0) vertices edges zones) z))) zones
   unnamed_by_marks above named h full p q =
-      rw (q, p) (lowest_same _ _ zones (λ z k. ap not (named_by_marks z (omega arith) (denies (empty_sheet (sheet_of (pos 0) (pos 0) vertices edges zones)) full))))
+      rw (q, p) (ap (found zones) (lowest_same _ _ zones (λ z k. ap not (named_by_marks z (omega arith) (denies (empty_sheet (sheet_of (pos 0) (pos 0) vertices edges zones)) full)))))
 
   -- on the sheet excepted no zone breaks rule 6
   pub all_named : holds (empty_sheet (sheet_of (pos 0) (pos 0) vertices edges zones)) ≡ true
-      → zones ≡ lowest (λ z. not (holds (zone_named (sheet_of (pos 0) (pos 0) vertices edges zones) z))) zones
+      → None ≡ first (λ z. not (holds (zone_named (sheet_of (pos 0) (pos 0) vertices edges zones) z))) zones
   all_named e =
-      sym (lowest_none _ zones (λ z h. ap not (held (zone_named (sheet_of (pos 0) (pos 0) vertices edges zones) z) (inr (means (empty_sheet (sheet_of (pos 0) (pos 0) vertices edges zones)) e)))))
+      first_nowhere _ zones (λ z h. ap not (held (zone_named (sheet_of (pos 0) (pos 0) vertices edges zones) z) (inr (means (empty_sheet (sheet_of (pos 0) (pos 0) vertices edges zones)) e))))

@@ -1,27 +1,34 @@
 ghost use Rattle.std.specs.Prelude.{◌≡◌, true, false, ◌<◌, ◌/◌, length, get_or, set};
-ghost use Rattle.marks.specs.Marks.{marked};
+ghost use Rattle.marks.specs.Marks.{place, marked};
 
-// The place of the western vertex among an edge's words.
-pub const WESTERN_VERTEX: usize = 0;
+use numbers::words::entry_or;
 
-// The place of the eastern vertex among an edge's words.
-pub const EASTERN_VERTEX: usize = 1;
+// A word of an edge's four, by what it names.
+#[derive(Clone, Copy, PartialEq, Eq, Debug)]
+pub enum Word {
+    WesternVertex,
+    EasternVertex,
+    ZoneAbove,
+    ZoneBelow,
+}
 
-// The place of the zone above among an edge's words.
-pub const ZONE_ABOVE: usize = 2;
+impl Word {
+    // The word's place among the four.
+    fn place(self) -> usize
+        ensures value { result ≡ place self }
+        ensures within { result < 4 }
+    {
+        self as usize
+    }
+}
 
-// The place of the zone below among an edge's words.
-pub const ZONE_BELOW: usize = 3;
-
-// Marks what the edges name at a place of their words; what has no mark is skipped.
-pub fn mark_named(edges: &[u32], at: usize, marks: &mut [bool])
-    requires { at < 4 }
-    ensures { marks.new ≡ marked edges.now at (length edges.now / 4) marks.old }
+// Marks what the edges name by a word of theirs; what has no mark is skipped.
+pub fn mark_named(edges: &[u32], word: Word, marks: &mut [bool])
+    ensures { marks.new ≡ marked edges.now (place word) (length edges.now / 4) marks.old }
 {
-    let mut e = 0;
-    while e < edges.len() / 4 {
+    let at = word.place();
+    for e in 0..edges.len() / 4 {
         mark(marks, edges[4 * e + at]);
-        e += 1;
     }
 }
 
@@ -29,6 +36,7 @@ pub fn mark_named(edges: &[u32], at: usize, marks: &mut [bool])
 fn mark(marks: &mut [bool], v: u32)
     ensures { marks.new ≡ set marks.old v true }
 {
+    // By its place: after `get_mut` of a slice the proof knows none of the elements, and didn't close.
     let i = v as usize;
     if i < marks.len() {
         marks[i] = true;
@@ -39,9 +47,5 @@ fn mark(marks: &mut [bool], v: u32)
 pub fn is_marked(marks: &[bool], v: u32) -> bool
     ensures { result ≡ get_or marks.now v false }
 {
-    let i = v as usize;
-    if i < marks.len() {
-        return marks[i];
-    }
-    false
+    entry_or(marks, v as usize, false)
 }

@@ -1,15 +1,14 @@
--- A month by the words of its samples is the month defined, once the refusals before a sample is placed have passed.
+-- A month by where its samples lie is the month defined, once the refusals before a sample is placed have passed.
 use mathlib.Core.Path.{◌≡◌, refl, sym, ap, ◌∙◌}
 use mathlib.Core.Bool.{Bool, true, false, not}
 use mathlib.Core.List.{List, [], ◌∷◌}
 use Prim.Native.Nat.{ℕ, ◌-◌, ◌<◌, ◌≤◌}
 use native.Mathlib.Omega.{arith}
 use borrow.Author.Tests.{ltb-true, ltb-false}
-use lib.Dec.{eqb, ltb}
+use lib.Dec.{ltb}
 use lib.Ieee.{Float}
 use lib.ListN.{length, get_or, replicate, length-replicate}
-use Rattle.subdivision.specs.declared.Answer.{Answer}
-use Rattle.subdivision.specs.declared.Verdict.{Verdict}
+use Rattle.subdivision.specs.Results.{Reply, passed, refused}
 use Rattle.subdivision.specs.Formula.{Formula, holds}
 use Rattle.subdivision.specs.Limits.{max_zones, max_examined}
 use Rattle.subdivision.specs.Dyadic.{bits}
@@ -18,7 +17,7 @@ use Rattle.subdivision.specs.Lowest.{lowest}
 use Rattle.subdivision.specs.Sheet.{Sheet, zone_count}
 use Rattle.subdivision.specs.Refusals.{Refusal, for_each, judged}
 use Rattle.subdivision.specs.Faults.{AllKept}
-use Rattle.ledger.specs.declared.Month.{Month}
+use Rattle.ledger.specs.Results.{listed}
 use Rattle.ledger.specs.Readings.{passes, taken}
 use Rattle.ledger.specs.Tallies.{none_entered, entering}
 use Rattle.ledger.specs.Months.{Samples, Lent, Left, sample_count, reading_at, sample_x, sample_y, in_zone, on_boundary, off_sheet, damaged, too_coarse, those, taken_and, samples_that, tally_of, entered, month_refusals, month_by, searched_at, month_of}
@@ -31,40 +30,45 @@ use Rattle.theory.proofs.SearchAnswers.{searched_zone, searched_refusals}
 use Rattle.accounting.proofs.Tests.{not_passes}
 use Rattle.accounting.proofs.Those.{those_same}
 use Rattle.months.specs.Lines.{lent_refusals, placed_refusals}
-use Rattle.samples.specs.Words.{boundary_word, off_word, damaged_word, sample_word, coarse, has_word}
+use Rattle.samples.specs.declared.Spot.{Spot}
+use Rattle.samples.specs.Spots.{found_spot, nowhere, spot_in, coarse, lies_at, same_spot}
 use Rattle.samples.specs.Zones.{tally_by, words_by, means_by, coarsest, left_by}
-use Rattle.months.proofs.Words.{Fair, zone_word_lem, boundary_word_lem, off_word_lem, damaged_word_lem, coarse_word, taken_word}
+use Rattle.months.proofs.Spots.{Fair, zone_spot, boundary_spot, off_spot, damaged_spot, coarse_spot, taken_spot, taken_nowhere}
 use Rattle.samples.proofs.ZoneWords.{words_same, means_same}
 
 module _ (s : Sheet) (index : List ℕ) (t : Samples) (permits : List Float) (lent : Lent) where
   -- the answer for a sample
-  abbrev answer : ℕ → Answer
+  abbrev answer : ℕ → Reply
   answer = searched_at s index t
 
-  -- the word of a sample
-  abbrev pub word : ℕ → ℕ
-  word k = sample_word (reading_at t k) (answer k)
+  -- where a sample lies, once it is placed
+  abbrev pub spot : ℕ → Spot
+  spot k = spot_in (found_spot s index t k)
+
+  -- a sample is not placed
+  abbrev pub lost : ℕ → Bool
+  lost k = nowhere (found_spot s index t k)
 
   -- the lines of the month
   abbrev lines : List Refusal
   lines = month_refusals answer t permits s (length index) lent
 
   -- a month that a line refuses
-  pub month_refused : (number item : ℕ) → judged lines ≡ Verdict.Refused number item → month_of s index t permits lent ≡ record { month = Month.Refused number item; lent = lent }
+  pub month_refused : (number item : ℕ) → judged lines ≡ refused number item → month_of s index t permits lent ≡ record { month = refused number item; lent = lent }
   unfolding month_by
   month_refused number item e = rw (e, month_by)
 
   -- a month that none refuses
-  pub month_passed : judged lines ≡ Verdict.Passed → month_of s index t permits lent ≡ entered answer t permits s lent
+  pub month_passed : judged lines ≡ passed → month_of s index t permits lent ≡ entered answer t permits s lent
   unfolding month_by
   month_passed e = rw (e, month_by)
 
   -- a refusal before a sample is placed
-  pub by_lent : (number item : ℕ) → judged (lent_refusals s (length index) t permits lent) ≡ Verdict.Refused number item
-      → month_of s index t permits lent ≡ record { month = Month.Refused number item; lent = lent }
+  pub by_lent : (number item : ℕ) → judged (lent_refusals s (length index) t permits lent) ≡ refused number item
+      → month_of s index t permits lent ≡ record { month = refused number item; lent = lent }
   by_lent number item e = month_refused number item (refused_first (lent_refusals s (length index) t permits lent) (placed_refusals answer t permits) number item e)
 
-  module _ (passed : judged (lent_refusals s (length index) t permits lent) ≡ Verdict.Passed) where
+  module _ (passed : judged (lent_refusals s (length index) t permits lent) ≡ passed) where
     -- every line before is kept
     kept : AllKept (lent_refusals s (length index) t permits lent)
     kept = passed_keeps (lent_refusals s (length index) t permits lent) passed
@@ -92,82 +96,82 @@ module _ (s : Sheet) (index : List ℕ) (t : Samples) (permits : List Float) (le
     abbrev fine : ℕ → Formula
     fine k = passes (not (too_coarse permits (reading_at t k) (answer k)))
 
-    -- a sample is damaged by its word as by its answer
-    damaged_same : (k : ℕ) → eqb (word k) damaged_word ≡ taken_and answer t damaged k
+    -- a sample is not placed where 22 is given for it
+    damaged_same : (k : ℕ) → lost k ≡ taken_and answer t damaged k
     damaged_same k =
-        taken_word (taken (reading_at t k)) (answer k) damaged_word (damaged (answer k)) (λ e. omega arith) (damaged_word_lem (zone_count s) few (answer k) (fair k))
+        taken_nowhere (taken (reading_at t k)) (answer k) (damaged (answer k)) (damaged_spot (zone_count s) (answer k) (fair k))
 
     -- so is the lowest
-    lowest_damaged : lowest (λ k. eqb (word k) damaged_word) (sample_count t) ≡ lowest (λ k. not (holds (undamaged k))) (sample_count t)
+    lowest_damaged : lowest lost (sample_count t) ≡ lowest (λ k. not (holds (undamaged k))) (sample_count t)
     lowest_damaged =
-        lowest_same (λ k. eqb (word k) damaged_word) (λ k. not (holds (undamaged k))) (sample_count t) (λ k h. damaged_same k ∙ sym (not_passes (taken_and answer t damaged k)))
+        lowest_same lost (λ k. not (holds (undamaged k))) (sample_count t) (λ k h. damaged_same k ∙ sym (not_passes (taken_and answer t damaged k)))
 
     -- 22
-    pub by_damage : (r : ℕ) → r ≡ lowest (λ k. eqb (word k) damaged_word) (sample_count t) → r < sample_count t
-        → month_of s index t permits lent ≡ record { month = Month.Refused 22 r; lent = lent }
+    pub by_damage : (r : ℕ) → r ≡ lowest lost (sample_count t) → r < sample_count t
+        → month_of s index t permits lent ≡ record { month = refused 22 r; lent = lent }
     by_damage r e h =
         let same = e ∙ lowest_damaged in
-        month_refused 22 r (past ∙ judged_for_each_broken 22 (sample_count t) undamaged (for_each 41 (sample_count t) fine ∷ []) (rw same at h) ∙ ap (Verdict.Refused 22) (sym same))
+        month_refused 22 r (past ∙ judged_for_each_broken 22 (sample_count t) undamaged (for_each 41 (sample_count t) fine ∷ []) (rw same at h) ∙ ap (refused 22) (sym same))
 
-    module _ (whole : lowest (λ k. eqb (word k) damaged_word) (sample_count t) ≡ sample_count t) where
-      -- the words of the samples
-      abbrev places : List ℕ
-      places = tab word (sample_count t)
+    module _ (whole : lowest lost (sample_count t) ≡ sample_count t) where
+      -- where the samples lie
+      abbrev places : List Spot
+      places = tab spot (sample_count t)
 
       past_22 : judged lines ≡ judged (for_each 41 (sample_count t) fine ∷ [])
       past_22 = past ∙ judged_for_each_kept 22 (sample_count t) undamaged (for_each 41 (sample_count t) fine ∷ []) (sym lowest_damaged ∙ whole)
 
-      at : (k : ℕ) → k < sample_count t → get_or places k 0 ≡ word k
-      at k h = get_d_tab word (sample_count t) k 0 h
+      at : (k : ℕ) → k < sample_count t → get_or places k Spot.Untaken ≡ spot k
+      at k h = get_d_tab spot (sample_count t) k Spot.Untaken h
 
-      -- a sample is too coarse by its word as by its answer
+      -- a sample is too coarse where it lies as by its answer
       lowest_coarse : coarsest t places permits (zone_count s) ≡ lowest (λ k. not (holds (fine k))) (sample_count t)
       lowest_coarse =
-          lowest_same (λ k. coarse permits (zone_count s) (reading_at t k) (get_or places k 0)) (λ k. not (holds (fine k))) (sample_count t)
-          (λ k h. ap (coarse permits (zone_count s) (reading_at t k)) (at k h) ∙ coarse_word (zone_count s) few permits (reading_at t k) (answer k) (fair k) ∙ sym (not_passes (too_coarse permits (reading_at t k) (answer k))))
+          lowest_same (λ k. coarse permits (zone_count s) (reading_at t k) (get_or places k Spot.Untaken)) (λ k. not (holds (fine k))) (sample_count t)
+          (λ k h. ap (coarse permits (zone_count s) (reading_at t k)) (at k h) ∙ coarse_spot (zone_count s) permits (reading_at t k) (answer k) (fair k) ∙ sym (not_passes (too_coarse permits (reading_at t k) (answer k))))
 
-      -- the samples with a word are those whose answers pass a test
-      listed : (w : ℕ) (test : Answer → Bool) → ((k : ℕ) → eqb (word k) w ≡ taken_and answer t test k) → those (has_word places w) (length places) ≡ samples_that answer t test
-      listed w test f =
-          ap (those (has_word places w)) (length_tab word (sample_count t))
-          ∙ those_same (has_word places w) (taken_and answer t test) (sample_count t) (λ k h. ap (λ q. eqb q w) (at k h) ∙ f k)
+      -- the samples that lie at a spot are those whose answers pass a test
+      those_at : (w : Spot) (test : Reply → Bool) → ((k : ℕ) → same_spot (spot k) w ≡ taken_and answer t test k) → those (lies_at places w) (length places) ≡ samples_that answer t test
+      those_at w test f =
+          ap (those (lies_at places w)) (length_tab spot (sample_count t))
+          ∙ those_same (lies_at places w) (taken_and answer t test) (sample_count t) (λ k h. ap (λ q. same_spot q w) (at k h) ∙ f k)
 
-      on_boundaries : those (has_word places boundary_word) (length places) ≡ samples_that answer t on_boundary
+      on_boundaries : those (lies_at places Spot.Boundary) (length places) ≡ samples_that answer t on_boundary
       on_boundaries =
-          listed boundary_word on_boundary (λ k. taken_word (taken (reading_at t k)) (answer k) boundary_word (on_boundary (answer k)) (λ e. omega arith) (boundary_word_lem (zone_count s) few (answer k) (fair k)))
+          those_at Spot.Boundary on_boundary (λ k. taken_spot (taken (reading_at t k)) (answer k) Spot.Boundary (on_boundary (answer k)) refl (boundary_spot (answer k)))
 
-      off_sheet_lem : those (has_word places off_word) (length places) ≡ samples_that answer t off_sheet
+      off_sheet_lem : those (lies_at places Spot.OffSheet) (length places) ≡ samples_that answer t off_sheet
       off_sheet_lem =
-          listed off_word off_sheet (λ k. taken_word (taken (reading_at t k)) (answer k) off_word (off_sheet (answer k)) (λ e. omega arith) (off_word_lem (zone_count s) few (answer k) (fair k)))
+          those_at Spot.OffSheet off_sheet (λ k. taken_spot (taken (reading_at t k)) (answer k) Spot.OffSheet (off_sheet (answer k)) refl (off_spot (answer k)))
 
       tallied : (z : ℕ) → z < zone_count s → tally_by t places z (length places) ≡ tally_of answer t z
       tallied z h =
           ap (entering (reading_at t) none_entered)
-          (listed z (in_zone z) (λ k. taken_word (taken (reading_at t k)) (answer k) z (in_zone z (answer k)) (λ e. omega (arith, few)) (zone_word_lem (zone_count s) few z h (answer k))))
+          (those_at (Spot.Zone z) (in_zone z) (λ k. taken_spot (taken (reading_at t k)) (answer k) (Spot.Zone z) (in_zone z (answer k)) refl (zone_spot z (answer k))))
 
-      -- what is left by the words is what the month leaves
+      -- what is left by where the samples lie is what the month leaves
       pub by_places : left_by t places permits (zone_count s) lent ≡ month_of s index t permits lent
       by_places = go (ltb (coarsest t places permits (zone_count s)) (sample_count t)) refl
         where
           good : Left
           good =
-              left_of (Month.Judged (length (those (has_word places boundary_word) (length places))) (length (those (has_word places off_word) (length places))))
-              (put (those (has_word places boundary_word) (length places)) lent.boundary)
-              (put (those (has_word places off_word) (length places)) lent.off)
+              left_of (listed (length (those (lies_at places Spot.Boundary) (length places))) (length (those (lies_at places Spot.OffSheet) (length places))))
+              (put (those (lies_at places Spot.Boundary) (length places)) lent.boundary)
+              (put (those (lies_at places Spot.OffSheet) (length places)) lent.off)
               (put (words_by t places permits (zone_count s)) lent.results)
               (means_by t places permits lent.means (zone_count s))
 
           good_is : good ≡ entered answer t permits s lent
           good_is =
-              λ i. left_of (Month.Judged (length (on_boundaries i)) (length (off_sheet_lem i))) (put (on_boundaries i) lent.boundary) (put (off_sheet_lem i) lent.off)
+              λ i. left_of (listed (length (on_boundaries i)) (length (off_sheet_lem i))) (put (on_boundaries i) lent.boundary) (put (off_sheet_lem i) lent.off)
               (put (words_same t places permits answer (zone_count s) tallied (zone_count s) (omega arith) i) lent.results)
               (means_same t places permits answer (zone_count s) tallied lent.means (zone_count s) (omega arith) i)
 
           go : (b : Bool) → ltb (coarsest t places permits (zone_count s)) (sample_count t) ≡ b
-              → (elim b [ true ↦ record { month = Month.Refused 41 (coarsest t places permits (zone_count s)); lent = lent } | false ↦ good ]) ≡ month_of s index t permits lent
+              → (elim b [ true ↦ record { month = refused 41 (coarsest t places permits (zone_count s)); lent = lent } | false ↦ good ]) ≡ month_of s index t permits lent
           go true e =
               let below : lowest (λ k. not (holds (fine k))) (sample_count t) < sample_count t = rw lowest_coarse at (ltb-true (coarsest t places permits (zone_count s)) (sample_count t) e) in
-              sym (month_refused 41 (coarsest t places permits (zone_count s)) (past_22 ∙ judged_for_each_broken 41 (sample_count t) fine [] below ∙ ap (Verdict.Refused 41) (sym lowest_coarse)))
+              sym (month_refused 41 (coarsest t places permits (zone_count s)) (past_22 ∙ judged_for_each_broken 41 (sample_count t) fine [] below ∙ ap (refused 41) (sym lowest_coarse)))
           go false e =
               let above = ltb-false (coarsest t places permits (zone_count s)) (sample_count t) e in
               let all : lowest (λ k. not (holds (fine k))) (sample_count t) ≡ sample_count t = omega (arith, above, lowest_coarse, lowest_le (λ k. not (holds (fine k))) (sample_count t)) in

@@ -1,6 +1,6 @@
 -- A month's refusals in two parts: those before a sample is placed, and those after.
 use Rattle.std.specs.Prelude.{not, List, [], ◌∷◌, ◌++◌, ℕ, Float}
-use Rattle.subdivision.specs.declared.Answer.{Answer}
+use Rattle.subdivision.specs.Results.{Reply}
 use Rattle.subdivision.specs.Sheet.{Sheet, zone_count}
 use Rattle.subdivision.specs.Refusals.{Refusal, unnamed, for_each, limit_refusals, room_refusal}
 use Rattle.ledger.specs.Readings.{passes, reading_sound, permit_of, permit_sound}
@@ -17,7 +17,7 @@ lent_refusals s words t permits lent =
     ∷ [])
 
 -- the lines after: 22, 41
-abbrev pub placed_refusals : (ℕ → Answer) → Samples → List Float → List Refusal
+abbrev pub placed_refusals : (ℕ → Reply) → Samples → List Float → List Refusal
 placed_refusals answer t permits =
     for_each 22 (sample_count t) (λ k. passes (not (taken_and answer t damaged k)))
     ∷ for_each 41 (sample_count t) (λ k. passes (not (too_coarse permits (reading_at t k) (answer k))))

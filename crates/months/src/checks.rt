@@ -1,51 +1,65 @@
-ghost use Rattle.std.specs.Prelude.{◌≡◌, length};
-ghost use Rattle.subdivision.specs.Sheet.{sheet_of};
+ghost use Rattle.std.specs.Prelude.{◌≡◌, length, MatchResult, Err};
+ghost use Rattle.subdivision.specs.Results.{passed};
 ghost use Rattle.subdivision.specs.Refusals.{judged};
-ghost use Rattle.ledger.specs.Months.{samples_of, lent_of};
+ghost use Rattle.ledger.specs.Months.{lent_of};
+ghost use Rattle.tables.specs.Lent.{lent};
+ghost use Rattle.tallies.specs.Lent.{lent_samples};
+ghost use Rattle.samples.specs.Room.{HasRoom};
 ghost use Rattle.months.specs.Lines.{lent_refusals};
 
 use numbers::layout::need;
-use samples::faults::{first_bad_permit, first_bad_reading, has_room};
-use subdivision::Verdict;
+use samples::faults::{first_bad_permit, first_bad_reading};
+use samples::room::{Permits, Samples};
+use subdivision::Refused;
+use tables::LentSheet;
+use tallies::LentSamples;
 
-// The month's refusals before a sample is placed, in order: 1, 2, 3, 43, 42 and 40.
-pub(crate) fn check_lent(
-    west: i32,
-    east: i32,
-    vertices: &[i32],
-    edges: &[u32],
-    zones: u32,
+// The month's refusals before a sample is placed, in order: 1, 2, 3, 43, 42 and 40; where none is given, the samples and the permits,
+// for which there is room.
+pub(crate) fn check_lent<'a>(
+    sheet: LentSheet,
     index: &[u32],
-    points: &[i32],
-    kinds: &[u32],
-    values: &[f64],
-    permits: &[f64],
+    samples: LentSamples<'a>,
+    permits: &'a [f64],
     boundary: &[u32],
     off: &[u32],
     results: &[u32],
     means: &[f64],
-) -> Verdict
-    ensures { result ≡ judged (lent_refusals (sheet_of west east vertices.now edges.now zones) (length index.now) (samples_of points.now kinds.now values.now) permits.now (lent_of boundary.now off.now results.now means.now)) }
+) -> Result<(Samples<'a>, Permits<'a>), Refused>
+    ensures { MatchResult result
+        (λ r. (judged (lent_refusals (lent sheet.entry) (length index.now) (lent_samples samples.entry) permits.now (lent_of boundary.now off.now results.now means.now)) ≡ passed)
+        × HasRoom (lent_samples samples.entry) permits.now sheet.entry.zones (lent_of boundary.now off.now results.now means.now) r.0 r.1)
+        (λ e. judged (lent_refusals (lent sheet.entry) (length index.now) (lent_samples samples.entry) permits.now (lent_of boundary.now off.now results.now means.now)) ≡ Err e) }
 {
-    match sheet::limits(west, east, vertices, edges, zones) {
-        Verdict::Refused(number, item) => return Verdict::Refused(number, item),
-        Verdict::Passed => {}
+    sheet::limits(sheet)?;
+    if index.len() < need(sheet.zones as usize, sheet.tables.edge_count()) {
+        return Err(Refused { number: 3, item: 0 });
     }
-    if index.len() < need(zones as usize, edges.len() / 4) {
-        return Verdict::Refused(3, 0);
+    let Some((samples, permits)) = Samples::with_room(
+        samples,
+        permits,
+        sheet.zones,
+        boundary,
+        off,
+        results,
+        means,
+    ) else {
+        return Err(Refused {
+            number: 43,
+            item: 0,
+        });
+    };
+    if let Some(z) = first_bad_permit(permits) {
+        return Err(Refused {
+            number: 42,
+            item: z,
+        });
     }
-    if !has_room(
-        zones, points, kinds, values, permits, boundary, off, results, means,
-    ) {
-        return Verdict::Refused(43, 0);
+    if let Some(k) = first_bad_reading(samples) {
+        return Err(Refused {
+            number: 40,
+            item: k as u32,
+        });
     }
-    let z = first_bad_permit(permits, zones);
-    if z < zones {
-        return Verdict::Refused(42, z);
-    }
-    let k = first_bad_reading(kinds, values);
-    if k < kinds.len() {
-        return Verdict::Refused(40, k as u32);
-    }
-    Verdict::Passed
+    Ok((samples, permits))
 }

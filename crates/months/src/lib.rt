@@ -1,21 +1,28 @@
 // The monthly ledger: the samples of a month are placed by the quick search, and each zone is judged by those that lie in it.
 #![tactic(auto)]
 
-ghost use Rattle.std.specs.Prelude.{◌≡◌, [], ◌↔◌, ℕ, ◌*◌, ◌≤◌, length};
-ghost use Rattle.subdivision.specs.Sheet.{sheet_of};
+ghost use Rattle.std.specs.Prelude.{◌≡◌, ◌↔◌, ℕ, ◌*◌, ◌≤◌, length};
 ghost use Rattle.subdivision.specs.Faults.{GivenBy};
-ghost use Rattle.ledger.specs.declared.Month.{Month};
-ghost use Rattle.ledger.specs.Months.{max_samples, samples_of, lent_of, month_refusals, searched_at, month_of};
+ghost use Rattle.subdivision.specs.Results.{refused};
+ghost use Rattle.ledger.specs.Results.{listed};
+ghost use Rattle.ledger.specs.Months.{max_samples, lent_of, month_refusals, searched_at, month_of};
 ghost use Rattle.ledger.specs.Promises.{left_of, OnePlace, CountsSamples, OneValue, OutsideChangesNothing, ReadPlainly};
+ghost use Rattle.tables.specs.Lent.{lent};
+ghost use Rattle.tallies.specs.Lent.{lent_samples};
+ghost use Rattle.samples.specs.Room.{samples_in};
 ghost use Rattle.samples.specs.Zones.{left_by};
 
 use crate::checks::check_lent;
-use ledger::{MAX_SAMPLES, Month};
+use ledger::{Listed, MAX_SAMPLES};
+use samples::Spot;
 use samples::faults::first_coarse;
 use samples::lists::list_those;
-use samples::places::{BOUNDARY, OFF_SHEET, place_samples};
+use samples::places::place_samples;
+use samples::room::{Permits, Samples};
 use samples::zones::judge_zones;
-use subdivision::Verdict;
+use subdivision::Refused;
+use tables::LentSheet;
+use tallies::LentSamples;
 
 mod checks;
 
@@ -23,59 +30,38 @@ mod checks;
 // detection and its judgement written, and its mean where it has one; or it gives one of the refusals 1, 2, 3, 43, 42, 40, 22 and
 // 41, in that order, and writes nothing.
 pub fn judge_month(
-    west: i32,
-    east: i32,
-    vertices: &[i32],
-    edges: &[u32],
-    zones: u32,
+    sheet: LentSheet,
     index: &[u32],
-    points: &[i32],
-    kinds: &[u32],
-    values: &[f64],
+    samples: LentSamples,
     permits: &[f64],
     boundary: &mut [u32],
     off: &mut [u32],
     results: &mut [u32],
     means: &mut [f64],
-) -> Month
-    ensures left { left_of result boundary.new off.new results.new means.new ≡ month_of (sheet_of west east vertices.now edges.now zones) index.now (samples_of points.now kinds.now values.now) permits.now (lent_of boundary.old off.old results.old means.old) }
-    ensures refused { (number item : ℕ) → (result ≡ Month.Refused number item) ↔ GivenBy (month_refusals (searched_at (sheet_of west east vertices.now edges.now zones) index.now (samples_of points.now kinds.now values.now)) (samples_of points.now kinds.now values.now) permits.now (sheet_of west east vertices.now edges.now zones) (length index.now) (lent_of boundary.old off.old results.old means.old)) number item }
-    ensures untouched { (number item : ℕ) → result ≡ Month.Refused number item → lent_of boundary.new off.new results.new means.new ≡ lent_of boundary.old off.old results.old means.old }
-    ensures one_place { (on away : ℕ) → result ≡ Month.Judged on away → OnePlace (searched_at (sheet_of west east vertices.now edges.now zones) index.now (samples_of points.now kinds.now values.now)) (samples_of points.now kinds.now values.now) zones × CountsSamples (searched_at (sheet_of west east vertices.now edges.now zones) index.now (samples_of points.now kinds.now values.now)) (samples_of points.now kinds.now values.now) zones results.new }
-    ensures one_value { (on away : ℕ) → result ≡ Month.Judged on away → OneValue (searched_at (sheet_of west east vertices.now edges.now zones) index.now (samples_of points.now kinds.now values.now)) (samples_of points.now kinds.now values.now) zones means.new }
-    ensures outside { (on away : ℕ) → result ≡ Month.Judged on away → OutsideChangesNothing (sheet_of west east vertices.now edges.now zones) index.now (samples_of points.now kinds.now values.now) permits.now (lent_of boundary.old off.old results.old means.old) results.new means.new }
-    ensures read_plainly { ReadPlainly (sheet_of west east vertices.now edges.now zones) index.now (samples_of points.now kinds.now values.now) permits.now (lent_of boundary.old off.old results.old means.old) (left_of result boundary.new off.new results.new means.new) }
+) -> Result<Listed, Refused>
+    ensures left { left_of result boundary.new off.new results.new means.new ≡ month_of (lent sheet.entry) index.now (lent_samples samples.entry) permits.now (lent_of boundary.old off.old results.old means.old) }
+    ensures refused { (number item : ℕ) → (result ≡ refused number item) ↔ GivenBy (month_refusals (searched_at (lent sheet.entry) index.now (lent_samples samples.entry)) (lent_samples samples.entry) permits.now (lent sheet.entry) (length index.now) (lent_of boundary.old off.old results.old means.old)) number item }
+    ensures untouched { (number item : ℕ) → result ≡ refused number item → lent_of boundary.new off.new results.new means.new ≡ lent_of boundary.old off.old results.old means.old }
+    ensures one_place { (on away : ℕ) → result ≡ listed on away → OnePlace (searched_at (lent sheet.entry) index.now (lent_samples samples.entry)) (lent_samples samples.entry) sheet.entry.zones × CountsSamples (searched_at (lent sheet.entry) index.now (lent_samples samples.entry)) (lent_samples samples.entry) sheet.entry.zones results.new }
+    ensures one_value { (on away : ℕ) → result ≡ listed on away → OneValue (searched_at (lent sheet.entry) index.now (lent_samples samples.entry)) (lent_samples samples.entry) sheet.entry.zones means.new }
+    ensures outside { (on away : ℕ) → result ≡ listed on away → OutsideChangesNothing (lent sheet.entry) index.now (lent_samples samples.entry) permits.now (lent_of boundary.old off.old results.old means.old) results.new means.new }
+    ensures read_plainly { ReadPlainly (lent sheet.entry) index.now (lent_samples samples.entry) permits.now (lent_of boundary.old off.old results.old means.old) (left_of result boundary.new off.new results.new means.new) }
 {
-    match check_lent(
-        west, east, vertices, edges, zones, index, points, kinds, values, permits, boundary, off,
-        results, means,
-    ) {
-        Verdict::Refused(number, item) => return Month::Refused(number, item),
-        Verdict::Passed => {}
-    }
-    let count = kinds.len();
-    let mut places = [0u32; MAX_SAMPLES];
-    let k = place_samples(
-        west,
-        east,
-        vertices,
-        edges,
-        zones,
-        index,
-        points,
-        kinds,
-        values,
-        &mut places,
-    );
-    if k < count {
-        return Month::Refused(22, k as u32);
+    let (samples, permits) = check_lent(
+        sheet, index, samples, permits, boundary, off, results, means,
+    )?;
+    // A fixed buffer: no heap, memory of a known size.
+    let mut places = [Spot::Untaken; MAX_SAMPLES];
+    if let Some(k) = place_samples(sheet, index, samples, &mut places) {
+        return Err(Refused {
+            number: 22,
+            item: k as u32,
+        });
     }
     enter_month(
-        kinds,
-        values,
-        &places[..count],
+        samples,
+        &places[..samples.count()],
         permits,
-        zones,
         boundary,
         off,
         results,
@@ -83,29 +69,32 @@ pub fn judge_month(
     )
 }
 
-// Judges a month whose samples have these words.
+// Judges a month whose samples lie so.
 fn enter_month(
-    kinds: &[u32],
-    values: &[f64],
-    places: &[u32],
-    permits: &[f64],
-    zones: u32,
+    samples: Samples,
+    places: &[Spot],
+    permits: Permits,
     boundary: &mut [u32],
     off: &mut [u32],
     results: &mut [u32],
     means: &mut [f64],
-) -> Month
-    requires kinds_len_bound { (length kinds.now ≤ max_samples) × ((length values.now ≡ length kinds.now) × (length places.now ≡ length kinds.now)) }
-    requires kinds_in_bounds { (length kinds.now ≤ length boundary.old) × (length kinds.now ≤ length off.old) }
-    requires zones_in_bounds { (2 * zones ≤ length permits.now) × ((3 * zones ≤ length results.old) × (zones ≤ length means.old)) }
-    ensures { left_of result boundary.new off.new results.new means.new ≡ left_by (samples_of [] kinds.now values.now) places.now permits.now zones (lent_of boundary.old off.old results.old means.old) }
+) -> Result<Listed, Refused>
+    requires places_len { (length samples.kinds.now ≤ max_samples) × (length places.now ≡ length samples.kinds.now) }
+    requires kinds_in_bounds { (length samples.kinds.now ≤ length boundary.old) × (length samples.kinds.now ≤ length off.old) }
+    requires zones_in_bounds { (3 * permits.zones ≤ length results.old) × (permits.zones ≤ length means.old) }
+    ensures { left_of result boundary.new off.new results.new means.new ≡ left_by (samples_in samples.entry) places.now permits.entry.words.now permits.entry.zones (lent_of boundary.old off.old results.old means.old) }
 {
-    let k = first_coarse(kinds, values, places, permits, zones);
-    if k < kinds.len() {
-        return Month::Refused(41, k as u32);
+    if let Some(k) = first_coarse(samples, places, permits) {
+        return Err(Refused {
+            number: 41,
+            item: k as u32,
+        });
     }
-    let on = list_those(places, BOUNDARY, boundary);
-    let away = list_those(places, OFF_SHEET, off);
-    judge_zones(kinds, values, places, permits, zones, results, means);
-    Month::Judged(on, away)
+    let on = list_those(places, Spot::Boundary, boundary);
+    let away = list_those(places, Spot::OffSheet, off);
+    judge_zones(samples, places, permits, results, means);
+    Ok(Listed {
+        boundary: on,
+        off: away,
+    })
 }

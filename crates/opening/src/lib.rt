@@ -2,10 +2,9 @@
 #![tactic(auto)]
 
 ghost use Rattle.std.specs.Prelude.{◌≡◌, ◌↔◌, ℕ, ◌≤◌, ◌/◌, length};
-ghost use Rattle.subdivision.specs.declared.Verdict.{Verdict};
+ghost use Rattle.subdivision.specs.Results.{passed, refused};
 ghost use Rattle.subdivision.specs.Lists.{put};
 ghost use Rattle.subdivision.specs.Layout.{index_need};
-ghost use Rattle.subdivision.specs.Sheet.{sheet_of};
 ghost use Rattle.subdivision.specs.Faults.{GivenBy, LowestOnCircle, opening_refusals};
 ghost use Rattle.subdivision.specs.Accepted.{Accepted};
 ghost use Rattle.subdivision.specs.Earlier.{earlier_opening_refusals, GivenAsBefore};
@@ -13,43 +12,34 @@ ghost use Rattle.subdivision.specs.Index.{index_words};
 ghost use Rattle.subdivision.specs.Engine.{HoldsIndex};
 ghost use Rattle.subdivision.specs.Calls.{opening};
 ghost use Rattle.subdivision.specs.Signed.{OpenedAsSigned};
+ghost use Rattle.tables.specs.Lent.{lent};
 
-use numbers::layout;
-use subdivision::{MAX_ZONES, Verdict};
+use indexing::write_index;
+use numbers::layout::need;
+use sheet::{limits, rules};
+use subdivision::{MAX_ZONES, Refused};
+use tables::LentSheet;
 
 // Opens a sheet: checks 1 to 13 in order, then writes the index to the front of `index`. A refusal writes nothing.
-pub fn open_sheet(
-    west: i32,
-    east: i32,
-    vertices: &[i32],
-    edges: &[u32],
-    zones: u32,
-    index: &mut [u32],
-) -> Verdict
-    ensures verdict { result ≡ (opening (sheet_of west east vertices.now edges.now zones) index.old).verdict }
-    ensures words { index.new ≡ (opening (sheet_of west east vertices.now edges.now zones) index.old).index }
-    ensures opened { (result ≡ Verdict.Passed) ↔ (Accepted (sheet_of west east vertices.now edges.now zones) × (index_need zones (length edges.now / 4) ≤ length index.old)) }
-    ensures refused { (number item : ℕ) → (result ≡ Verdict.Refused number item) ↔ GivenBy (opening_refusals (sheet_of west east vertices.now edges.now zones) (length index.old)) number item }
-    ensures written { result ≡ Verdict.Passed → (index.new ≡ put (index_words (sheet_of west east vertices.now edges.now zones)) index.old) × (length (index_words (sheet_of west east vertices.now edges.now zones)) ≡ index_need zones (length edges.now / 4)) }
-    ensures untouched { (number item : ℕ) → result ≡ Verdict.Refused number item → index.new ≡ index.old }
-    ensures indexed { result ≡ Verdict.Passed → HoldsIndex (sheet_of west east vertices.now edges.now zones) index.new }
-    ensures circle { (item : ℕ) → result ≡ Verdict.Refused 13 item → LowestOnCircle (sheet_of west east vertices.now edges.now zones) item }
-    ensures as_before { GivenAsBefore (earlier_opening_refusals (sheet_of west east vertices.now edges.now zones) (length index.old)) (λ number item. result ≡ Verdict.Refused number item) }
-    ensures signed { OpenedAsSigned (sheet_of west east vertices.now edges.now zones) index.old result index.new }
+pub fn open_sheet(sheet: LentSheet, index: &mut [u32]) -> Result<(), Refused>
+    ensures verdict { result ≡ (opening (lent sheet.entry) index.old).verdict }
+    ensures words { index.new ≡ (opening (lent sheet.entry) index.old).index }
+    ensures opened { (result ≡ passed) ↔ (Accepted (lent sheet.entry) × (index_need sheet.entry.zones (length sheet.entry.tables.edges.now / 4) ≤ length index.old)) }
+    ensures refused { (number item : ℕ) → (result ≡ refused number item) ↔ GivenBy (opening_refusals (lent sheet.entry) (length index.old)) number item }
+    ensures written { result ≡ passed → (index.new ≡ put (index_words (lent sheet.entry)) index.old) × (length (index_words (lent sheet.entry)) ≡ index_need sheet.entry.zones (length sheet.entry.tables.edges.now / 4)) }
+    ensures untouched { (number item : ℕ) → result ≡ refused number item → index.new ≡ index.old }
+    ensures indexed { result ≡ passed → HoldsIndex (lent sheet.entry) index.new }
+    ensures circle { (item : ℕ) → result ≡ refused 13 item → LowestOnCircle (lent sheet.entry) item }
+    ensures as_before { GivenAsBefore (earlier_opening_refusals (lent sheet.entry) (length index.old)) (λ number item. result ≡ refused number item) }
+    ensures signed { OpenedAsSigned (lent sheet.entry) index.old result index.new }
 {
-    match sheet::limits(west, east, vertices, edges, zones) {
-        Verdict::Refused(number, item) => return Verdict::Refused(number, item),
-        Verdict::Passed => {}
+    limits(sheet)?;
+    if index.len() < need(sheet.zones as usize, sheet.tables.edge_count()) {
+        return Err(Refused { number: 3, item: 0 });
     }
-    if index.len() < layout::need(zones as usize, edges.len() / 4) {
-        return Verdict::Refused(3, 0);
-    }
+    // A fixed buffer: no heap, memory of a known size.
     let mut line = [0u32; MAX_ZONES];
-    match sheet::rules(west, east, vertices, edges, zones, &mut line) {
-        Verdict::Refused(number, item) => return Verdict::Refused(number, item),
-        Verdict::Passed => {}
-    }
-    let n = zones as usize;
-    indexing::write_index(vertices, edges, &line[..n], index);
-    Verdict::Passed
+    rules(sheet, &mut line)?;
+    write_index(sheet.tables, &line[..sheet.zones as usize], index);
+    Ok(())
 }

@@ -1,6 +1,6 @@
 -- What is printed for a sheet and for a page, case by case; and that an index with room asks nothing more than the tables.
 use mathlib.Core.Path.{◌≡◌, refl, sym, ap, ◌∙◌}
-use mathlib.Core.Bool.{true, false}
+use mathlib.Core.Bool.{true, false, false≢true}
 use mathlib.Core.List.{List, ◌∷◌}
 use mathlib.Core.Logic.{⊎_elim}
 use Prim.Native.Nat.{ℕ, ◌/◌, ◌<◌, ◌≤◌}
@@ -10,7 +10,8 @@ use lib.IntN.{ℤ}
 use lib.ListN.{length, drop, length-append}
 use lib.Seq.{length-take-le}
 use Rattle.io.specs.Counts.{IsPrefixLen}
-use Rattle.subdivision.specs.declared.Verdict.{Verdict}
+use Rattle.std.specs.Prelude.{Ok, Err}
+use Rattle.subdivision.specs.Results.{Verdict, passed, refused}
 use Rattle.subdivision.specs.Limits.{program_limits}
 use Rattle.subdivision.specs.Formula.{is_at_most, holds, Means}
 use Rattle.subdivision.specs.Lists.{put}
@@ -18,9 +19,8 @@ use Rattle.subdivision.specs.Layout.{index_need}
 use Rattle.subdivision.specs.Sheet.{Sheet, edge_count, zone_count}
 use Rattle.subdivision.specs.Refusals.{judged, counts_within_under, limit_refusals, room_refusal, rule_refusals}
 use Rattle.subdivision.specs.Faults.{table_refusals, opening_refusals}
-use Rattle.frames.specs.declared.Judged.{Judged}
-use Rattle.frames.specs.declared.Written.{Written}
-use Rattle.frames.specs.Pages.{head_vertices, head_edges, head_zones, judged_page, page_sheet, point_words, GoodPage}
+use Rattle.frames.specs.Texts.{Written}
+use Rattle.frames.specs.Pages.{refused_page, head_vertices, head_edges, head_zones, judged_page, page_sheet, point_words, GoodPage}
 use Rattle.frames.specs.Placing.{max_page, max_text, refused_text, answers_text, sheet_text, head_beyond, placed_text, place_page}
 use Rattle.theory.proofs.Decide.{decided, held, denies}
 use Rattle.theory.proofs.Judgement.{refused_first, passed_first}
@@ -31,18 +31,18 @@ pub opens_by_tables : (s : Sheet) (words : ℕ) → index_need (zone_count s) (e
 opens_by_tables s words h = go (judged (limit_refusals s)) refl
   where
     go : (v : Verdict) → judged (limit_refusals s) ≡ v → judged (opening_refusals s words) ≡ judged (table_refusals s)
-    go Verdict.Passed e =
+    go (Ok u) e =
         passed_first (limit_refusals s) (room_refusal s words ∷ rule_refusals s) e ∙ rw (held (room_refusal s words).kept h, judged) (sym (passed_first (limit_refusals s) (rule_refusals s) e))
-    go (Verdict.Refused number item) e =
-        refused_first (limit_refusals s) (room_refusal s words ∷ rule_refusals s) number item e ∙ sym (refused_first (limit_refusals s) (rule_refusals s) number item e)
+    go (Err r) e =
+        refused_first (limit_refusals s) (room_refusal s words ∷ rule_refusals s) r.number r.item e ∙ sym (refused_first (limit_refusals s) (rule_refusals s) r.number r.item e)
 
 -- a refused sheet is its refusal's line
-pub sheet_refused : (s : Sheet) (points : List ℤ) (number item : ℕ) → judged (table_refusals s) ≡ Verdict.Refused number item → sheet_text s points ≡ refused_text number item
+pub sheet_refused : (s : Sheet) (points : List ℤ) (number item : ℕ) → judged (table_refusals s) ≡ refused number item → sheet_text s points ≡ refused_text number item
 unfolding sheet_text
 sheet_refused s points number item e = rw (e, sheet_text)
 
 -- an accepted sheet is a line for each point
-pub sheet_passed : (s : Sheet) (points : List ℤ) → judged (table_refusals s) ≡ Verdict.Passed → sheet_text s points ≡ answers_text s points (length points / 2)
+pub sheet_passed : (s : Sheet) (points : List ℤ) → judged (table_refusals s) ≡ passed → sheet_text s points ≡ answers_text s points (length points / 2)
 unfolding sheet_text
 sheet_passed s points e = rw (e, sheet_text)
 
@@ -71,39 +71,38 @@ module _ (page : List ℕ) where
 
   module _ (held_head : holds (head_beyond page) ≡ false) where
     -- a refused page is its refusal's line
-    pub placed_refused : (number line : ℕ) → length page ≤ max_page → judged_page page ≡ Judged.Refused number line → placed_text page ≡ refused_text number line
+    pub placed_refused : (number line : ℕ) → length page ≤ max_page → judged_page page ≡ refused_page number line → placed_text page ≡ refused_text number line
     unfolding placed_text
     placed_refused number line h e = rw (le-ltb max_page (length page) h, placed_text) (rw held_head (rw e))
 
     -- a good page is its sheet with its points
-    pub placed_good : (count : ℕ) → length page ≤ max_page → judged_page page ≡ Judged.Good count → placed_text page ≡ sheet_text (page_sheet page) (point_words page count)
+    pub placed_good : (count : ℕ) → length page ≤ max_page → judged_page page ≡ Ok count → placed_text page ≡ sheet_text (page_sheet page) (point_words page count)
     unfolding placed_text
     placed_good count h e = rw (le-ltb max_page (length page) h, placed_text) (rw held_head (rw e))
 
   -- a lent text with room
-  pub places : (text : List ℕ) → max_text ≤ length text → place_page page text ≡ record { written = Written.Text (length (placed_text page)); text = put (placed_text page) text }
+  pub places : (text : List ℕ) → max_text ≤ length text → place_page page text ≡ record { written = Ok (length (placed_text page)); text = put (placed_text page) text }
   unfolding place_page
   places text h = rw (le-leb max_text (length text) h, place_page)
 
   -- a lent text without
-  pub places_short : (text : List ℕ) → length text < max_text → place_page page text ≡ record { written = Written.Refused 33; text = text }
+  pub places_short : (text : List ℕ) → length text < max_text → place_page page text ≡ record { written = refused 33 0; text = text }
   unfolding place_page
   places_short text h = rw (lt-leb max_text (length text) h, place_page)
 
   -- what is written is a part of the text
-  pub printed_counts : (text : List ℕ) (count : ℕ) → (place_page page text).written ≡ Written.Text count → IsPrefixLen count (place_page page text).text
+  pub printed_counts : (text : List ℕ) (count : ℕ) → (place_page page text).written ≡ Ok count → IsPrefixLen count (place_page page text).text
   printed_counts text count e = ⊎_elim with_room (λ short. absurd (without short)) (decided (is_at_most max_text (length text)))
     where
       with_room : max_text ≤ length text → IsPrefixLen count (place_page page text).text
       with_room h =
           let so = places text h in
-          let same : Written.Text (length (placed_text page)) ≡ Written.Text count = sym (ap (λ r. r.written) so) ∙ e in
+          let same : ◌≡◌ {A = Written} (Ok (length (placed_text page))) (Ok count) = sym (ap (λ r. r.written) so) ∙ e in
           let n : length (placed_text page) ≡ count = cc in
           let long : count ≤ length (place_page page text).text = omega (arith, n, ap length (ap (λ r. r.text) so), length-append (placed_text page) (drop (length (placed_text page)) text)) in
           (long, sym (length-take-le count (place_page page text).text long))
 
       without : (max_text ≤ length text → ⊥) → ⊥
       without short =
-          let so : Written.Refused 33 ≡ Written.Text count = sym (ap (λ r. r.written) (places_short text (omega (arith, short)))) ∙ e in
-          let never : ◌≡◌ {A = ℕ} 0 1 = cc in
-          omega arith
+          let so : ◌≡◌ {A = Written} (refused 33 0) (Ok count) = sym (ap (λ r. r.written) (places_short text (omega (arith, short)))) ∙ e in
+          false≢true cc

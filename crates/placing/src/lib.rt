@@ -8,15 +8,14 @@ ghost use Rattle.subdivision.specs.Formula.{holds};
 ghost use Rattle.subdivision.specs.Lists.{put};
 ghost use Rattle.subdivision.specs.Layout.{index_need};
 ghost use Rattle.subdivision.specs.Sheet.{sheet_of};
-ghost use Rattle.frames.specs.declared.Written.{Written};
 ghost use Rattle.frames.specs.Placing.{max_page, max_text, sheet_text, head_beyond, placed_text, place_page};
 
-use crate::placed_sheet::place_sheet;
-use answers::put_refusal;
-use frames::{Head, MAX_PAGE, MAX_TEXT, Page, Written};
+use crate::placed_sheet::{place_sheet, put_refused};
+use frames::{Head, MAX_PAGE, MAX_TEXT};
 use pages::heads::head_beyond;
 use pages::read_page;
-use subdivision::{HELD_EDGES, HELD_VERTICES, HELD_ZONES};
+use subdivision::{HELD_EDGES, HELD_VERTICES, HELD_ZONES, Refused};
+use tables::{LentSheet, Tables};
 
 mod placed_sheet;
 
@@ -28,25 +27,29 @@ const HELD_INDEX: usize = 3 * HELD_ZONES + HELD_EDGES + 1;
 
 // Writes what the program prints for a page to the front of `text`, and gives its length; or gives refusal 33 where `text` has
 // less room than MAX_TEXT bytes, and writes nothing.
-pub fn place_page(page: &[u8], text: &mut [u8]) -> Written
+pub fn place_page(page: &[u8], text: &mut [u8]) -> Result<usize, Refused>
     ensures written { result ≡ (place_page page.now text.old).written }
     ensures text { text.new ≡ (place_page page.now text.old).text }
-    ensures counted { (count : ℕ) → result ≡ Written.Text count → IsPrefixLen count text.new }
+    ensures counted { (count : ℕ) → result ≡ Ok count → IsPrefixLen count text.new }
 {
     if text.len() < MAX_TEXT {
-        return Written::Refused(33);
+        return Err(Refused {
+            number: 33,
+            item: 0,
+        });
     }
     if MAX_PAGE < page.len() {
-        return Written::Text(put_refusal(34, 0, text, 0));
+        return Ok(put_refused(34, 0, text));
     }
     if head_beyond(page) {
-        return Written::Text(put_refusal(1, 0, text, 0));
+        return Ok(put_refused(1, 0, text));
     }
+    // A fixed buffer: no heap, memory of a known size.
     let mut vertices = [0i32; 2 * HELD_VERTICES];
     let mut edges = [0u32; 4 * HELD_EDGES];
     let mut points = [0i32; 2 * MAX_POINTS];
     let mut index = [0u32; HELD_INDEX];
-    Written::Text(place_read(
+    Ok(place_read(
         page,
         &mut vertices,
         &mut edges,
@@ -71,8 +74,8 @@ fn place_read(
     ensures text_after { text.new ≡ put (placed_text page.now) text.old }
 {
     match read_page(page, vertices, edges, points) {
-        Page::Refused(number, line) => put_refusal(number, line as u64, text, 0),
-        Page::Sheet(head, count) => place_head(head, count, vertices, edges, points, index, text),
+        Err(refusal) => put_refused(refusal.number, refusal.line as u64, text),
+        Ok(read) => place_head(read.head, read.points, vertices, edges, points, index, text),
     }
 }
 
@@ -91,17 +94,14 @@ fn place_head(
     ensures value { result ≡ length (sheet_text (sheet_of head.west head.east (take (2 * head.vertices) vertices.now) (take (4 * head.edges) edges.now) head.zones) (take (2 * count) points.now)) }
     ensures text_after { text.new ≡ put (sheet_text (sheet_of head.west head.east (take (2 * head.vertices) vertices.now) (take (4 * head.edges) edges.now) head.zones) (take (2 * count) points.now)) text.old }
 {
-    let v = 2 * (head.vertices as usize);
-    let m = 4 * (head.edges as usize);
-    let p = 2 * count;
-    place_sheet(
-        head.west,
-        head.east,
-        &vertices[..v],
-        &edges[..m],
-        head.zones,
-        &points[..p],
-        index,
-        text,
-    )
+    let sheet = LentSheet {
+        west: head.west,
+        east: head.east,
+        tables: Tables {
+            vertices: &vertices[..2 * (head.vertices as usize)],
+            edges: &edges[..4 * (head.edges as usize)],
+        },
+        zones: head.zones,
+    };
+    place_sheet(sheet, &points[..2 * count], index, text)
 }

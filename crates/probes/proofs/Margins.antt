@@ -1,7 +1,6 @@
 -- A shifted margin and the signed number that is shifted to it.
 use mathlib.Core.Path.{◌≡◌, ap}
-use Prim.Native.Nat.{ℕ, ◌+◌, ◌-◌, ◌<◌, ◌≤◌}
-use native.Mathlib.Decide.{dec_le}
+use Prim.Native.Nat.{◌+◌, ◌-◌, ◌<◌, ◌≤◌}
 use native.Mathlib.Omega.{arith}
 use borrow.Author.Tests.{le-leb, lt-leb}
 use lib.IntN.{ℤ, pos, negsuc}
@@ -9,13 +8,6 @@ use Rattle.subdivision.specs.Limits.{origin}
 use Rattle.subdivision.specs.Sheet.{shifted}
 use Rattle.theory.proofs.Shift.{Signed32}
 use Rattle.probes.specs.Margins.{unshifted}
-
-pub shifted_unshifted : (c : ℕ) → shifted (unshifted c) ≡ c
-shifted_unshifted c = go (dec_le origin c)
-  where
-    go : Dec (origin ≤ c) → shifted (unshifted c) ≡ c
-    go (yes p) = rw (le-leb origin c p, shifted, unshifted) (omega arith)
-    go (no p) = let q : c < origin = omega arith in rw (lt-leb origin c q, shifted, unshifted) (omega arith)
 
 pub unshifted_shifted : (z : ℤ) → Signed32 z → unshifted (shifted z) ≡ z
 unshifted_shifted (pos n) h =

@@ -2,48 +2,45 @@
 #![tactic(auto)]
 
 ghost use Rattle.std.specs.Prelude.{◌≡◌, ◌↔◌, ℕ};
-ghost use Rattle.subdivision.specs.declared.Answer.{Answer};
-ghost use Rattle.subdivision.specs.Sheet.{shifted, sheet_of};
+ghost use Rattle.subdivision.specs.Results.{refused};
+ghost use Rattle.subdivision.specs.Sheet.{shifted};
 ghost use Rattle.subdivision.specs.Faults.{GivenBy, LowestOnCircle, reading_refusals};
 ghost use Rattle.subdivision.specs.Earlier.{earlier_reading_refusals, GivenAsBefore};
 ghost use Rattle.subdivision.specs.Placed.{OneThingOnly, ReadingsAgree};
 ghost use Rattle.subdivision.specs.Calls.{reading};
 ghost use Rattle.subdivision.specs.Signed.{ReadAsSigned};
+ghost use Rattle.tables.specs.Lent.{lent};
 
 use records::vertices::on_sheet;
-use scans::points::place;
-use subdivision::{Answer, MAX_ZONES, Verdict};
-use tables::shifted;
+use scans::Scan;
+use subdivision::{Answer, MAX_ZONES, Refused};
+use tables::{LentSheet, shifted};
 
 // Reads the point (x, y): the vertex that it equals, else the edge that it lies on, else the zone; or
 // one of the refusals 1, 2, 4 to 13 and 20, in that order.
-pub fn read_point(
-    west: i32,
-    east: i32,
-    vertices: &[i32],
-    edges: &[u32],
-    zones: u32,
-    x: i32,
-    y: i32,
-) -> Answer
-    ensures answer { result ≡ reading (sheet_of west east vertices.now edges.now zones) x y }
-    ensures refused { (number item : ℕ) → (result ≡ Answer.Refused number item) ↔ GivenBy (reading_refusals (sheet_of west east vertices.now edges.now zones) (shifted x) (shifted y)) number item }
-    ensures one_thing { OneThingOnly (sheet_of west east vertices.now edges.now zones) (shifted x) (shifted y) result }
-    ensures agreed { ReadingsAgree (sheet_of west east vertices.now edges.now zones) (shifted x) (shifted y) result }
-    ensures circle { (item : ℕ) → result ≡ Answer.Refused 13 item → LowestOnCircle (sheet_of west east vertices.now edges.now zones) item }
-    ensures as_before { GivenAsBefore (earlier_reading_refusals (sheet_of west east vertices.now edges.now zones) (shifted x) (shifted y)) (λ number item. result ≡ Answer.Refused number item) }
-    ensures signed { ReadAsSigned (sheet_of west east vertices.now edges.now zones) x y result }
+pub fn read_point(sheet: LentSheet, x: i32, y: i32) -> Result<Answer, Refused>
+    ensures answer { result ≡ reading (lent sheet.entry) x y }
+    ensures refused { (number item : ℕ) → (result ≡ refused number item) ↔ GivenBy (reading_refusals (lent sheet.entry) (shifted x) (shifted y)) number item }
+    ensures one_thing { OneThingOnly (lent sheet.entry) (shifted x) (shifted y) result }
+    ensures agreed { ReadingsAgree (lent sheet.entry) (shifted x) (shifted y) result }
+    ensures circle { (item : ℕ) → result ≡ refused 13 item → LowestOnCircle (lent sheet.entry) item }
+    ensures as_before { GivenAsBefore (earlier_reading_refusals (lent sheet.entry) (shifted x) (shifted y)) (λ number item. result ≡ refused number item) }
+    ensures signed { ReadAsSigned (lent sheet.entry) x y result }
 {
+    // A fixed buffer: no heap, memory of a known size.
     let mut line = [0u32; MAX_ZONES];
-    match sheet::rules(west, east, vertices, edges, zones, &mut line) {
-        Verdict::Refused(number, item) => return Answer::Refused(number, item),
-        Verdict::Passed => {}
+    sheet::rules(sheet, &mut line)?;
+    let scan = Scan {
+        margin: shifted(sheet.east),
+        tables: sheet.tables,
+        x: shifted(x),
+        y: shifted(y),
+    };
+    if !on_sheet(shifted(sheet.west), scan.margin, scan.x, scan.y) {
+        return Err(Refused {
+            number: 20,
+            item: 0,
+        });
     }
-    let margin = shifted(east);
-    let px = shifted(x);
-    let py = shifted(y);
-    if !on_sheet(shifted(west), margin, px, py) {
-        return Answer::Refused(20, 0);
-    }
-    place(margin, vertices, edges, line[0], px, py)
+    Ok(scan.place(line[0]))
 }

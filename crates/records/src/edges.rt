@@ -1,85 +1,56 @@
 ghost use Rattle.std.specs.Prelude.{◌≡◌, not, [], ◌<◌, ◌≤◌, ◌/◌, pos, length};
 ghost use Rattle.subdivision.specs.Formula.{holds};
-ghost use Rattle.subdivision.specs.Lowest.{lowest};
+ghost use Rattle.subdivision.specs.Lowest.{first};
 ghost use Rattle.subdivision.specs.Sheet.{sheet_of};
 ghost use Rattle.subdivision.specs.Rules.{edge_names, edge_runs, zones_differ};
+ghost use Rattle.tables.specs.Lent.{drawn};
 
 use tables::{
-    edge_above, edge_below, edge_east, edge_west, known_above, known_below, known_east, known_west,
-    vertex_x,
+    Tables, edge_above, edge_below, edge_east, edge_west, known_above, known_below, known_east,
+    known_west, vertex_x,
 };
 
-// Refusal 6: the lowest of the first `count` edges that names what isn't there; `count` where none does.
-pub fn first_misnamed(vertices: &[i32], edges: &[u32], zones: u32, count: u32) -> u32
-    requires { count ≤ length edges.now / 4 }
-    ensures { result ≡ lowest (λ e. not (holds (edge_names (sheet_of (pos 0) (pos 0) vertices.now edges.now zones) e))) count }
+// Refusal 6: the lowest of the first `count` edges that names what isn't there.
+pub fn first_misnamed(tables: Tables, zones: u32, count: u32) -> Option<u32>
+    requires { count ≤ length tables.edges.now / 4 }
+    ensures { result ≡ first (λ e. not (holds (edge_names (sheet_of (pos 0) (pos 0) tables.entry.vertices.now tables.entry.edges.now zones) e))) count }
 {
-    let mut e: u32 = 0;
-    while e < count {
-        if !edge_names(vertices, edges, zones, e) {
-            return e;
-        }
-        e += 1;
-    }
-    e
+    (0..count).find(|e| !edge_names(tables, zones, *e))
 }
 
 // Whether edge e, which is there, names vertices and zones that exist.
-pub fn edge_names(vertices: &[i32], edges: &[u32], zones: u32, e: u32) -> bool
-    requires { e < length edges.now / 4 }
-    ensures { result ≡ holds (edge_names (sheet_of (pos 0) (pos 0) vertices.now edges.now zones) e) }
+pub fn edge_names(tables: Tables, zones: u32, e: u32) -> bool
+    requires { e < length tables.edges.now / 4 }
+    ensures { result ≡ holds (edge_names (sheet_of (pos 0) (pos 0) tables.entry.vertices.now tables.entry.edges.now zones) e) }
 {
-    let n = vertices.len() / 2;
-    if n <= known_west(edges, e) as usize {
-        return false;
-    }
-    if n <= known_east(edges, e) as usize {
-        return false;
-    }
-    if zones <= known_above(edges, e) {
-        return false;
-    }
-    if zones <= known_below(edges, e) {
-        return false;
-    }
-    true
+    let count = tables.vertex_count();
+    (known_west(tables.edges, e) as usize) < count
+        && (known_east(tables.edges, e) as usize) < count
+        && known_above(tables.edges, e) < zones
+        && known_below(tables.edges, e) < zones
 }
 
-// Refusal 7: the lowest of the first `count` edges that does not run strictly west to east; `count` where none is.
-pub fn first_backward(vertices: &[i32], edges: &[u32], count: u32) -> u32
-    ensures { result ≡ lowest (λ e. not (holds (edge_runs (sheet_of (pos 0) (pos 0) vertices.now edges.now 0) e))) count }
+// Refusal 7: the lowest of the first `count` edges that does not run strictly west to east.
+pub fn first_backward(tables: Tables, count: u32) -> Option<u32>
+    ensures { result ≡ first (λ e. not (holds (edge_runs (drawn tables.entry) e))) count }
 {
-    let mut e: u32 = 0;
-    while e < count {
-        if !edge_runs(vertices, edges, e) {
-            return e;
-        }
-        e += 1;
-    }
-    e
+    (0..count).find(|e| !edge_runs(tables, *e))
 }
 
 // Whether edge e runs strictly west to east.
-fn edge_runs(vertices: &[i32], edges: &[u32], e: u32) -> bool
-    ensures { result ≡ holds (edge_runs (sheet_of (pos 0) (pos 0) vertices.now edges.now 0) e) }
+fn edge_runs(tables: Tables, e: u32) -> bool
+    ensures { result ≡ holds (edge_runs (drawn tables.entry) e) }
 {
-    let west = vertex_x(vertices, edge_west(edges, e));
-    let east = vertex_x(vertices, edge_east(edges, e));
+    let west = vertex_x(tables.vertices, edge_west(tables.edges, e));
+    let east = vertex_x(tables.vertices, edge_east(tables.edges, e));
     west < east
 }
 
-// Refusal 8: the lowest of the first `count` edges with the same zone on both sides; `count` where none is.
-pub fn first_one_zoned(edges: &[u32], count: u32) -> u32
-    ensures { result ≡ lowest (λ e. not (holds (zones_differ (sheet_of (pos 0) (pos 0) [] edges.now 0) e))) count }
+// Refusal 8: the lowest of the first `count` edges with the same zone on both sides.
+pub fn first_one_zoned(edges: &[u32], count: u32) -> Option<u32>
+    ensures { result ≡ first (λ e. not (holds (zones_differ (sheet_of (pos 0) (pos 0) [] edges.now 0) e))) count }
 {
-    let mut e: u32 = 0;
-    while e < count {
-        if !zones_differ(edges, e) {
-            return e;
-        }
-        e += 1;
-    }
-    e
+    (0..count).find(|e| !zones_differ(edges, *e))
 }
 
 // Whether edge e has different zones above and below.

@@ -1,2 +1,3 @@
--- Laws of a month by the words of its samples.
+-- Laws of a month by where its samples lie.
+pub mod Spots
 pub mod ZoneWords

@@ -7,21 +7,21 @@ use native.Mathlib.Omega.{arith}
 use borrow.Author.Tests.{lt-ltb, le-ltb}
 use lib.Ieee.{Float}
 use lib.ListN.{length, length-append}
-use Rattle.subdivision.specs.declared.Answer.{Answer}
+use Rattle.subdivision.specs.Results.{Reply, refused}
 use Rattle.subdivision.specs.Lists.{put, over}
 use Rattle.ledger.specs.declared.Tally.{Tally}
 use Rattle.ledger.specs.declared.Judgement.{Judgement}
-use Rattle.ledger.specs.declared.Month.{Month}
+use Rattle.ledger.specs.Results.{listed}
 use Rattle.ledger.specs.Readings.{permit_of}
 use Rattle.ledger.specs.Tallies.{judge, write_mean}
 use Rattle.ledger.specs.Months.{Samples, Lent, sample_count, those, tally_of, result_words, means_left}
 use Rattle.ledger.specs.Promises.{left_of}
 use Rattle.theory.proofs.Written.{put_more}
-use Rattle.accounting.proofs.Entering.{means_length}
-use Rattle.samples.specs.Words.{boundary_word, off_word, has_word}
+use Rattle.samples.specs.declared.Spot.{Spot}
+use Rattle.samples.specs.Spots.{lies_at}
 use Rattle.samples.specs.Zones.{zone_words, tally_by, judgement_by, words_by, means_by, coarsest, left_by}
 
-module _ (t : Samples) (places : List ℕ) (permits : List Float) where
+module _ (t : Samples) (places : List Spot) (permits : List Float) where
   -- three words a zone
   pub words_length : (z : ℕ) → length (words_by t places permits z) ≡ 3 * z
   words_length zero = refl
@@ -35,11 +35,6 @@ module _ (t : Samples) (places : List ℕ) (permits : List Float) where
       put_more (words_by t places permits z) (zone_words tally j) lent (3 * z) (omega (arith, words_length z))
       ∙ rw (add-one z) (λ i. put (words_by t places permits z ++ zone_words (e i) ((f ∙ ap (judge (permit_of permits z)) e) i)) lent)
 
-  -- the means are as many as were lent
-  pub means_by_length : (means : List Float) (z : ℕ) → length (means_by t places permits means z) ≡ length means
-  means_by_length means zero = refl
-  means_by_length means (suc z) = means_length (judgement_by t places permits z) (means_by t places permits means z) z ∙ means_by_length means z
-
   -- the mean of the next zone is written among those before it
   pub means_next : (z : ℕ) (means : List Float) (tally : Tally) (j : Judgement) → tally ≡ tally_by t places z (length places) → j ≡ judge (permit_of permits z) tally
       → write_mean j (means_by t places permits means z) z ≡ means_by t places permits means (z + 1)
@@ -47,23 +42,23 @@ module _ (t : Samples) (places : List ℕ) (permits : List Float) where
 
   -- a month with a limit above its zone's floor is refused
   pub left_coarse : (n : ℕ) (lent : Lent) (k : ℕ) → k ≡ coarsest t places permits n → k < sample_count t
-      → record { month = Month.Refused 41 k; lent = lent } ≡ left_by t places permits n lent
+      → record { month = refused 41 k; lent = lent } ≡ left_by t places permits n lent
   left_coarse n lent k e h =
       let below : coarsest t places permits n < sample_count t = rw e at h in
-      rw (lt-ltb (coarsest t places permits n) (sample_count t) below, left_by) (ap (λ q. record { month = Month.Refused 41 q; lent = lent }) e)
+      rw (lt-ltb (coarsest t places permits n) (sample_count t) below, left_by) (ap (λ q. record { month = refused 41 q; lent = lent }) e)
 
   -- a month with none has its lists, its words and its means
   pub left_fine : (n : ℕ) (lent : Lent) → sample_count t ≤ coarsest t places permits n
-      → left_of (Month.Judged (length (those (has_word places boundary_word) (length places))) (length (those (has_word places off_word) (length places))))
-      (put (those (has_word places boundary_word) (length places)) lent.boundary)
-      (put (those (has_word places off_word) (length places)) lent.off)
+      → left_of (listed (length (those (lies_at places Spot.Boundary) (length places))) (length (those (lies_at places Spot.OffSheet) (length places))))
+      (put (those (lies_at places Spot.Boundary) (length places)) lent.boundary)
+      (put (those (lies_at places Spot.OffSheet) (length places)) lent.off)
       (put (words_by t places permits n) lent.results)
       (means_by t places permits lent.means n)
       ≡ left_by t places permits n lent
   left_fine n lent h = rw (le-ltb (coarsest t places permits n) (sample_count t) h, left_by)
 
   -- where each zone's words give what its answers give, so do all of them
-  module _ (answer : ℕ → Answer) (n : ℕ) (same : (z : ℕ) → z < n → tally_by t places z (length places) ≡ tally_of answer t z) where
+  module _ (answer : ℕ → Reply) (n : ℕ) (same : (z : ℕ) → z < n → tally_by t places z (length places) ≡ tally_of answer t z) where
     pub words_same : (z : ℕ) → z ≤ n → words_by t places permits z ≡ result_words answer t permits z
     words_same zero h = refl
     words_same (suc z) h =

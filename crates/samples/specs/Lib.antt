@@ -1,3 +1,5 @@
--- The words that stand for the places of samples while a month is judged, and what a month leaves by them.
-pub mod Words
+-- Where the samples of a month lie, what a month leaves by that, and the samples as they are kept.
+pub mod Doubles
+pub mod Room
+pub mod Spots
 pub mod Zones

@@ -1,114 +1,66 @@
-ghost use Rattle.std.specs.Prelude.{◌≡◌, true, false, ◌*◌, ◌<◌, ◌≤◌, eqb, length, replicate};
+ghost use Rattle.std.specs.Prelude.{◌≡◌, ◌*◌, ◌<◌, ◌≤◌, length, replicate};
 ghost use Rattle.subdivision.specs.Limits.{max_examined};
 ghost use Rattle.subdivision.specs.Lists.{tab, put};
-ghost use Rattle.subdivision.specs.Lowest.{lowest};
-ghost use Rattle.subdivision.specs.Sheet.{sheet_of};
+ghost use Rattle.subdivision.specs.Lowest.{lowest, first};
+ghost use Rattle.subdivision.specs.Results.{reply_of};
 ghost use Rattle.subdivision.specs.Calls.{searching};
-ghost use Rattle.ledger.specs.Months.{samples_of, reading_at, searched_at};
-ghost use Rattle.samples.specs.Words.{answer_word, sample_word, off_word, damaged_word};
+ghost use Rattle.tables.specs.Lent.{lent};
+ghost use Rattle.samples.specs.Room.{samples_in};
+ghost use Rattle.samples.specs.Spots.{answer_spot, found_spot, spot_in, nowhere};
 
+use crate::Spot;
+use crate::room::Samples;
 use search::search_point;
-use subdivision::{Answer, MAX_EXAMINED};
-use tallies::{is_taken, reading_of};
+use subdivision::{Answer, MAX_EXAMINED, Refused};
+use tables::LentSheet;
+use tallies::is_taken;
 
-// A sample that is not taken.
-pub const UNTAKEN: u32 = 4294967295;
-
-// A sample on an edge or vertex.
-pub const BOUNDARY: u32 = 4294967294;
-
-// A sample that 20 turns away.
-pub const OFF_SHEET: u32 = 4294967293;
-
-// A sample that is refused otherwise.
-pub const DAMAGED: u32 = 4294967292;
-
-// Places the samples in order, their words to the front of `places`, up to the lowest taken one that the search refuses with 22;
-// gives its number, and the number of samples where there is none.
+// Places the samples in order, where each lies to the front of `places`, up to the lowest taken one that the search refuses with 22,
+// whose number it gives.
 pub fn place_samples(
-    west: i32,
-    east: i32,
-    vertices: &[i32],
-    edges: &[u32],
-    zones: u32,
+    sheet: LentSheet,
     index: &[u32],
-    points: &[i32],
-    kinds: &[u32],
-    values: &[f64],
-    places: &mut [u32],
-) -> usize
-    requires { (length points.now ≡ 2 * length kinds.now) × ((length values.now ≡ length kinds.now) × (length kinds.now ≤ length places.old)) }
-    ensures value { result ≡ lowest (λ k. eqb (sample_word (reading_at (samples_of points.now kinds.now values.now) k) (searched_at (sheet_of west east vertices.now edges.now zones) index.now (samples_of points.now kinds.now values.now) k)) damaged_word) (length kinds.now) }
-    ensures places_after { places.new ≡ put (tab (λ k. sample_word (reading_at (samples_of points.now kinds.now values.now) k) (searched_at (sheet_of west east vertices.now edges.now zones) index.now (samples_of points.now kinds.now values.now) k)) result) places.old }
+    samples: Samples,
+    places: &mut [Spot],
+) -> Option<usize>
+    requires { (length samples.points.now ≡ 2 * length samples.kinds.now) × (length samples.kinds.now ≤ length places.old) }
+    ensures value { result ≡ first (λ k. nowhere (found_spot (lent sheet.entry) index.now (samples_in samples.entry) k)) (length samples.entry.kinds.now) }
+    ensures places_after { places.new ≡ put (tab (λ k. spot_in (found_spot (lent sheet.entry) index.now (samples_in samples.entry) k)) (lowest (λ k. nowhere (found_spot (lent sheet.entry) index.now (samples_in samples.entry) k)) (length samples.entry.kinds.now))) places.old }
 {
-    let mut k = 0;
-    while k < kinds.len() {
-        let word = place_sample(
-            west, east, vertices, edges, zones, index, points, kinds, values, k,
-        );
-        if word == DAMAGED {
-            return k;
-        }
-        places[k] = word;
-        k += 1;
+    for k in 0..samples.count() {
+        let Some(spot) = place_sample(sheet, index, samples, k) else {
+            return Some(k);
+        };
+        places[k] = spot;
     }
-    k
+    None
 }
 
-// The word of sample k.
-fn place_sample(
-    west: i32,
-    east: i32,
-    vertices: &[i32],
-    edges: &[u32],
-    zones: u32,
-    index: &[u32],
-    points: &[i32],
-    kinds: &[u32],
-    values: &[f64],
-    k: usize,
-) -> u32
-    requires { (length points.now ≡ 2 * length kinds.now) × ((length values.now ≡ length kinds.now) × (k < length kinds.now)) }
-    ensures { result ≡ sample_word (reading_at (samples_of points.now kinds.now values.now) k) (searched_at (sheet_of west east vertices.now edges.now zones) index.now (samples_of points.now kinds.now values.now) k) }
+// Where sample k lies; none where the search refuses it otherwise than by 20.
+#[tactic(auto, unfolding(ledger::specs::Months::searched_at))]
+fn place_sample(sheet: LentSheet, index: &[u32], samples: Samples, k: usize) -> Option<Spot>
+    requires { (k < length samples.kinds.now) × (length samples.points.now ≡ 2 * length samples.kinds.now) }
+    ensures { result ≡ found_spot (lent sheet.entry) index.now (samples_in samples.entry) k }
 {
-    if !is_taken(reading_of(kinds[k], values[k])) {
-        return UNTAKEN;
+    if !is_taken(samples.reading(k)) {
+        return Some(Spot::Untaken);
     }
-    let x = points[2 * k];
-    let y = points[2 * k + 1];
-    place_point(west, east, vertices, edges, zones, index, x, y)
+    let (x, y) = samples.point(k);
+    place_point(sheet, index, x, y)
 }
 
-// The word of a point, searched for over a trail of its own.
-fn place_point(
-    west: i32,
-    east: i32,
-    vertices: &[i32],
-    edges: &[u32],
-    zones: u32,
-    index: &[u32],
-    x: i32,
-    y: i32,
-) -> u32
-    ensures { result ≡ answer_word (searching (sheet_of west east vertices.now edges.now zones) index.now x y (replicate max_examined 0)).found.answer }
+// Where a point lies, searched for over a trail of its own.
+fn place_point(sheet: LentSheet, index: &[u32], x: i32, y: i32) -> Option<Spot>
+    ensures { result ≡ answer_spot (reply_of (searching (lent sheet.entry) index.now x y (replicate max_examined 0)).found) }
 {
+    // A fixed buffer: no heap, memory of a known size.
     let mut trail = [0u32; MAX_EXAMINED];
-    let found = search_point(west, east, vertices, edges, zones, index, x, y, &mut trail);
-    let answer = found.answer;
-    match answer {
-        Answer::Vertex(_) => BOUNDARY,
-        Answer::Edge(_) => BOUNDARY,
-        Answer::Zone(z) => z,
-        Answer::Refused(number, _) => refused_word(number),
+    match search_point(sheet, index, x, y, &mut trail) {
+        Ok(found) => Some(match found.answer {
+            Answer::Vertex(_) | Answer::Edge(_) => Spot::Boundary,
+            Answer::Zone(z) => Spot::Zone(z),
+        }),
+        Err(Refused { number: 20, .. }) => Some(Spot::OffSheet),
+        Err(_) => None,
     }
-}
-
-// The word of a refused point.
-fn refused_word(number: u32) -> u32
-    ensures { result ≡ (elim (eqb number 20) [ true ↦ off_word | false ↦ damaged_word ]) }
-{
-    if number == 20 {
-        return OFF_SHEET;
-    }
-    DAMAGED
 }

@@ -1,55 +1,50 @@
-ghost use Rattle.std.specs.Prelude.{◌≡◌, [], ◌+◌, ◌*◌, ◌<◌, ◌≤◌, length};
+ghost use Rattle.std.specs.Prelude.{◌≡◌, ◌+◌, ◌*◌, ◌<◌, ◌≤◌, length};
 ghost use Rattle.subdivision.specs.Lists.{put, over};
+ghost use Rattle.ledger.specs.Months.{max_samples};
 ghost use Rattle.ledger.specs.Tallies.{judgement_word, write_mean};
-ghost use Rattle.ledger.specs.Months.{max_samples, samples_of};
+ghost use Rattle.samples.specs.Room.{samples_in};
 ghost use Rattle.samples.specs.Zones.{zone_words, tally_by, words_by, means_by};
 
+use crate::Spot;
+use crate::room::{Permits, Samples};
 use ledger::{Judgement, Tally};
-use numbers::words::write;
-use tallies::{enter, judge, permit_of, reading_of};
+use tallies::{enter, judge};
 
-// Judges each zone by the samples that have its word, and writes its three words and its mean, where there is one.
+// Judges each zone by the samples that lie in it, and writes its three words and its mean, where there is one.
 pub fn judge_zones(
-    kinds: &[u32],
-    values: &[f64],
-    places: &[u32],
-    permits: &[f64],
-    zones: u32,
+    samples: Samples,
+    places: &[Spot],
+    permits: Permits,
     results: &mut [u32],
     means: &mut [f64],
 )
-    requires kinds_len_bound { (length kinds.now ≤ max_samples) × ((length values.now ≡ length kinds.now) × (length places.now ≡ length kinds.now)) }
-    requires zones_in_bounds { (2 * zones ≤ length permits.now) × ((3 * zones ≤ length results.old) × (zones ≤ length means.old)) }
-    ensures results_after { results.new ≡ put (words_by (samples_of [] kinds.now values.now) places.now permits.now zones) results.old }
-    ensures means_after { means.new ≡ means_by (samples_of [] kinds.now values.now) places.now permits.now means.old zones }
+    requires places_len { (length samples.kinds.now ≤ max_samples) × (length places.now ≡ length samples.kinds.now) }
+    requires zones_in_bounds { (3 * permits.zones ≤ length results.old) × (permits.zones ≤ length means.old) }
+    ensures results_after { results.new ≡ put (words_by (samples_in samples.entry) places.now permits.entry.words.now permits.entry.zones) results.old }
+    ensures means_after { means.new ≡ means_by (samples_in samples.entry) places.now permits.entry.words.now means.old permits.entry.zones }
 {
-    let mut z: u32 = 0;
-    while z < zones {
-        let tally = tally_zone(kinds, values, places, z);
-        let judgement = judge(permit_of(permits, z as usize), tally);
+    for z in 0..permits.zones() {
+        let tally = tally_zone(samples, places, z);
+        let judgement = judge(permits.of(z), tally);
         write_words(tally, judgement, results, z as usize);
         write_mean(judgement, means, z as usize);
-        z += 1;
     }
 }
 
-// What is entered for zone z: the readings of the samples that have its word, in order.
-fn tally_zone(kinds: &[u32], values: &[f64], places: &[u32], z: u32) -> Tally
-    requires { (length kinds.now ≤ max_samples) × ((length values.now ≡ length kinds.now) × (length places.now ≡ length kinds.now)) }
-    ensures { result ≡ tally_by (samples_of [] kinds.now values.now) places.now z (length places.now) }
+// What is entered for zone z: the readings of the samples that lie in it, in order.
+fn tally_zone(samples: Samples, places: &[Spot], z: u32) -> Tally
+    requires { (length samples.kinds.now ≤ max_samples) × (length places.now ≡ length samples.kinds.now) }
+    ensures { result ≡ tally_by (samples_in samples.entry) places.now z (length places.now) }
 {
     let mut tally = Tally {
         count: 0,
         below: 0,
         sum: 0.0,
     };
-    let mut left = places.len();
-    while 0 < left {
-        let k = places.len() - left;
-        if places[k] == z {
-            tally = enter(tally, reading_of(kinds[k], values[k]));
+    for k in 0..places.len() {
+        if places[k] == Spot::Zone(z) {
+            tally = enter(tally, samples.reading(k));
         }
-        left -= 1;
     }
     tally
 }
@@ -60,7 +55,7 @@ fn write_words(tally: Tally, judgement: Judgement, results: &mut [u32], z: usize
     ensures { results.new ≡ over (zone_words tally judgement) results.old (3 * z) }
 {
     let words = [tally.count, tally.below, judgement_word(judgement)];
-    write(&words[..], results, 3 * z);
+    results[3 * z..3 * z + 3].copy_from_slice(&words);
 }
 
 // The word of a judgement.
@@ -79,9 +74,7 @@ fn write_mean(judgement: Judgement, means: &mut [f64], z: usize)
     requires { z < length means.old }
     ensures { means.new ≡ write_mean judgement means.old z }
 {
-    match judgement {
-        Judgement::NoMean => {}
-        Judgement::Within(mean) => means[z] = mean,
-        Judgement::Over(mean) => means[z] = mean,
+    if let Judgement::Within(mean) | Judgement::Over(mean) = judgement {
+        means[z] = mean;
     }
 }

@@ -1,3 +1,2 @@
 -- Laws of the plain reading's scans, a file a subject.
-pub mod Answers
 pub mod OnePass

@@ -7,9 +7,10 @@ use Prim.Native.Nat.{ℕ, ◌-◌, ◌<◌, ◌≤◌}
 use native.Mathlib.Omega.{arith}
 use lib.IntN.{ℤ}
 use lib.ListN.{length}
-use Rattle.subdivision.specs.declared.Answer.{Answer}
-use Rattle.subdivision.specs.declared.Found.{Found}
-use Rattle.subdivision.specs.declared.Verdict.{Verdict}
+use Rattle.std.specs.Prelude.{Err}
+use Rattle.subdivision.specs.declared.Refused.{Refused}
+use Rattle.subdivision.specs.Results.{Verdict, Search, passed, reply_of, examined_of, probes_of}
+use Rattle.subdivision.specs.Results as results
 use Rattle.subdivision.specs.Formula.{Formula, holds}
 use Rattle.subdivision.specs.Dyadic.{bits}
 use Rattle.subdivision.specs.Layout.{index_need}
@@ -31,26 +32,27 @@ use Rattle.theory.proofs.Signed.{searched_as_signed}
 use Rattle.descent.specs.Steps.{found_by, trail_of}
 
 module _ (s : Sheet) (index : List ℕ) (x y : ℤ) (lent : List ℕ) where
-  -- the promises of a result and the trail left, in the order of the contract
-  abbrev pub Promised : Found → List ℕ → Type 0
-  Promised r left =
-      (r ≡ (searching s index x y lent).found)
-      × ((left ≡ (searching s index x y lent).trail)
-      × (((number item : ℕ) → (r.answer ≡ Answer.Refused number item) ↔ SearchRefuses s index (shifted x) (shifted y) (length lent) number item)
-      × (((number item : ℕ) → r.answer ≡ Answer.Refused number item → (left ≡ lent) × ((r.examined ≡ 0) × (r.probes ≡ 0)))
-      × (CountsBounded s r
-      × (ThirdDemand s index (shifted x) (shifted y) lent r left
-      × SearchedAsSigned s index x y lent r left)))))
+  -- the promises of a result and the trail left, as the contract has them
+  abbrev pub Promised : Search → List ℕ → Type 0
+  Promised r left = record {
+    found : r ≡ (searching s index x y lent).found;
+    listed : left ≡ (searching s index x y lent).trail;
+    refused : (number item : ℕ) → (reply_of r ≡ results.refused number item) ↔ SearchRefuses s index (shifted x) (shifted y) (length lent) number item;
+    untouched : (number item : ℕ) → reply_of r ≡ results.refused number item → (left ≡ lent) × ((examined_of r ≡ 0) × (probes_of r ≡ 0));
+    bounded : CountsBounded s r;
+    third_demand : ThirdDemand s index (shifted x) (shifted y) lent r left;
+    signed : SearchedAsSigned s index x y lent r left;
+  }
 
   -- what the definition gives keeps every promise
   promised : (r : Searched) → r ≡ searching s index x y lent → Promised r.found r.trail
   promised r e =
       subst (λ (q : Searched). Promised q.found q.trail) (sym e)
-      (refl, (refl, (search_refused_exactly s index x y lent, (refused_leaves s index x y lent, (search_bounded s index x y lent, (third_demand s index x y lent, searched_as_signed s index x y lent))))))
+      (record { found = refl; listed = refl; refused = search_refused_exactly s index x y lent; untouched = refused_leaves s index x y lent; bounded = search_bounded s index x y lent; third_demand = third_demand s index x y lent; signed = searched_as_signed s index x y lent })
 
   -- a refusal, and the trail as it was
-  abbrev RefusalPromised : ℕ → ℕ → Type 0
-  RefusalPromised number item = Promised (search_refused number item lent).found lent
+  abbrev RefusalPromised : Refused → Type 0
+  RefusalPromised e = Promised (Err e) lent
 
   -- the lines that the call checks after the limits
   abbrev others : List Refusal
@@ -58,47 +60,47 @@ module _ (s : Sheet) (index : List ℕ) (x y : ℤ) (lent : List ℕ) where
       room_refusal s (length index) ∷ unnamed 20 (on_sheet s (shifted x) (shifted y)) ∷ unnamed 21 (trail_room s (length lent)) ∷ []
 
   -- a refusal by a line
-  by_line : (number item : ℕ) → judged (search_refusals s (length index) (shifted x) (shifted y) (length lent)) ≡ Verdict.Refused number item → RefusalPromised number item
+  by_line : (e : Refused) → judged (search_refusals s (length index) (shifted x) (shifted y) (length lent)) ≡ Err e → RefusalPromised e
   unfolding searching
-  by_line number item e = promised (search_refused number item lent) (rw (e, searching_under))
+  by_line e same = promised (search_refused e.number e.item lent) (rw (same, searching_under))
 
   -- a refusal by the limits
-  pub refused_by_limits : (number item : ℕ) → judged (limit_refusals s) ≡ Verdict.Refused number item → RefusalPromised number item
-  refused_by_limits number item e = by_line number item (refused_first (limit_refusals s) others number item e)
+  pub refused_by_limits : (e : Refused) → judged (limit_refusals s) ≡ Err e → RefusalPromised e
+  refused_by_limits e same = by_line e (refused_first (limit_refusals s) others e.number e.item same)
 
-  module _ (limits : judged (limit_refusals s) ≡ Verdict.Passed) where
+  module _ (limits : judged (limit_refusals s) ≡ passed) where
     -- a refusal by one of the other lines
-    by_others : (number : ℕ) → judged others ≡ Verdict.Refused number 0 → RefusalPromised number 0
-    by_others number e = by_line number 0 (passed_first (limit_refusals s) others limits ∙ e)
+    by_others : (number : ℕ) → judged others ≡ results.refused number 0 → RefusalPromised (record { number = number; item = 0 })
+    by_others number e = by_line _ (passed_first (limit_refusals s) others limits ∙ e)
 
     -- a line that names nothing refuses
-    names_nothing : (number : ℕ) (kept : Formula) → ◌≡◌ {A = Verdict} (Verdict.Refused number (names (unnamed number kept))) (Verdict.Refused number 0)
-    names_nothing number kept = ap (Verdict.Refused number) (sym (none_named number kept))
+    names_nothing : (number : ℕ) (kept : Formula) → ◌≡◌ {A = Verdict} (results.refused number (names (unnamed number kept))) (results.refused number 0)
+    names_nothing number kept = ap (results.refused number) (sym (none_named number kept))
 
     -- refusal 3 of an index without room
-    pub no_room : length index < index_need (zone_count s) (edge_count s) → RefusalPromised 3 0
+    pub no_room : length index < index_need (zone_count s) (edge_count s) → RefusalPromised (record { number = 3; item = 0 })
     no_room h = by_others 3 (rw (fails (room_refusal s (length index)).kept (λ k. omega arith), judged) (names_nothing 3 (room_refusal s (length index)).kept))
 
     module _ (room : index_need (zone_count s) (edge_count s) ≤ length index) where
       -- refusal 20 of a point that is not on the sheet
-      pub off_sheet_lem : holds (on_sheet s (shifted x) (shifted y)) ≡ false → RefusalPromised 20 0
+      pub off_sheet_lem : holds (on_sheet s (shifted x) (shifted y)) ≡ false → RefusalPromised (record { number = 20; item = 0 })
       off_sheet_lem e = by_others 20 (rw (held (room_refusal s (length index)).kept room, judged, e) (names_nothing 20 (on_sheet s (shifted x) (shifted y))))
 
       module _ (here : holds (on_sheet s (shifted x) (shifted y)) ≡ true) where
         -- refusal 21 of a trail without room
-        pub no_trail : length lent < bits (zone_count s - 1) → RefusalPromised 21 0
+        pub no_trail : length lent < bits (zone_count s - 1) → RefusalPromised (record { number = 21; item = 0 })
         no_trail h =
             by_others 21 (rw (held (room_refusal s (length index)).kept room, judged, here, fails (trail_room s (length lent)) (λ k. omega arith)) (names_nothing 21 (trail_room s (length lent))))
 
         -- what the descent finds, and what it lists written over the front of the trail
-        pub descended : bits (zone_count s - 1) ≤ length lent → (r : Found) (left : List ℕ) → r ≡ found_by (index_descent s index (shifted x) (shifted y))
+        pub descended : bits (zone_count s - 1) ≤ length lent → (r : Search) (left : List ℕ) → r ≡ found_by (index_descent s index (shifted x) (shifted y))
             → left ≡ put (trail_of (index_descent s index (shifted x) (shifted y))) lent → Promised r left
         unfolding searching index_descent
         descended h r left f l =
             promised (record { found = r; trail = left })
             ((λ i. record { found = f i; trail = l i }) ∙ ended (index_descent s index (shifted x) (shifted y)) ∙ rw (passes, searching_under))
           where
-            passes : judged (search_refusals s (length index) (shifted x) (shifted y) (length lent)) ≡ Verdict.Passed
+            passes : judged (search_refusals s (length index) (shifted x) (shifted y) (length lent)) ≡ passed
             passes =
                 passed_first (limit_refusals s) others limits
                 ∙ rw (held (room_refusal s (length index)).kept room, judged, here, held (trail_room s (length lent)) h)

@@ -2,63 +2,71 @@
 #![tactic(auto)]
 
 ghost use Rattle.std.specs.Prelude.{◌≡◌, ◌↔◌, ℕ, length};
-ghost use Rattle.subdivision.specs.declared.Answer.{Answer};
-ghost use Rattle.subdivision.specs.Sheet.{shifted, sheet_of};
+ghost use Rattle.subdivision.specs.Results.{refused, reply_of, examined_of, probes_of};
+ghost use Rattle.subdivision.specs.Sheet.{shifted};
 ghost use Rattle.subdivision.specs.Damage.{SearchRefuses};
 ghost use Rattle.subdivision.specs.Engine.{CountsBounded, ThirdDemand};
 ghost use Rattle.subdivision.specs.Calls.{searching};
 ghost use Rattle.subdivision.specs.Signed.{SearchedAsSigned};
+ghost use Rattle.tables.specs.Lent.{lent};
 
-use descent::{descend, refused};
+use descent::descend;
 use numbers::dyadic::bit_length;
 use numbers::layout::need;
 use numbers::words::write;
+use probes::Query;
 use records::vertices::on_sheet;
-use subdivision::{Found, MAX_EXAMINED, Verdict};
-use tables::shifted;
+use subdivision::{Found, MAX_EXAMINED, Refused};
+use tables::{LentSheet, shifted};
 
 // Searches for the point (x, y) by the words of `index`, and writes the edges examined, in order, to
 // the front of `trail`; or gives one of the refusals 1, 2, 3, 20, 21 and 22, in that order, and
 // writes nothing. It ends so whatever the index holds.
 pub fn search_point(
-    west: i32,
-    east: i32,
-    vertices: &[i32],
-    edges: &[u32],
-    zones: u32,
+    sheet: LentSheet,
     index: &[u32],
     x: i32,
     y: i32,
     trail: &mut [u32],
-) -> Found
-    ensures found { result ≡ (searching (sheet_of west east vertices.now edges.now zones) index.now x y trail.old).found }
-    ensures listed { trail.new ≡ (searching (sheet_of west east vertices.now edges.now zones) index.now x y trail.old).trail }
-    ensures refused { (number item : ℕ) → (result.answer ≡ Answer.Refused number item) ↔ SearchRefuses (sheet_of west east vertices.now edges.now zones) index.now (shifted x) (shifted y) (length trail.old) number item }
-    ensures untouched { (number item : ℕ) → result.answer ≡ Answer.Refused number item → (trail.new ≡ trail.old) × ((result.examined ≡ 0) × (result.probes ≡ 0)) }
-    ensures bounded { CountsBounded (sheet_of west east vertices.now edges.now zones) result }
-    ensures third_demand { ThirdDemand (sheet_of west east vertices.now edges.now zones) index.now (shifted x) (shifted y) trail.old result trail.new }
-    ensures signed { SearchedAsSigned (sheet_of west east vertices.now edges.now zones) index.now x y trail.old result trail.new }
+) -> Result<Found, Refused>
+    ensures found { result ≡ (searching (lent sheet.entry) index.now x y trail.old).found }
+    ensures listed { trail.new ≡ (searching (lent sheet.entry) index.now x y trail.old).trail }
+    ensures refused { (number item : ℕ) → (reply_of result ≡ refused number item) ↔ SearchRefuses (lent sheet.entry) index.now (shifted x) (shifted y) (length trail.old) number item }
+    ensures untouched { (number item : ℕ) → reply_of result ≡ refused number item → (trail.new ≡ trail.old) × ((examined_of result ≡ 0) × (probes_of result ≡ 0)) }
+    ensures bounded { CountsBounded (lent sheet.entry) result }
+    ensures third_demand { ThirdDemand (lent sheet.entry) index.now (shifted x) (shifted y) trail.old result trail.new }
+    ensures signed { SearchedAsSigned (lent sheet.entry) index.now x y trail.old result trail.new }
 {
-    match sheet::limits(west, east, vertices, edges, zones) {
-        Verdict::Refused(number, item) => return refused(number, item),
-        Verdict::Passed => {}
+    sheet::limits(sheet)?;
+    if index.len() < need(sheet.zones as usize, sheet.tables.edge_count()) {
+        return Err(Refused { number: 3, item: 0 });
     }
-    if index.len() < need(zones as usize, edges.len() / 4) {
-        return refused(3, 0);
+    let (west, east) = (shifted(sheet.west), shifted(sheet.east));
+    let query = Query {
+        west,
+        east,
+        tables: sheet.tables,
+        zones: sheet.zones,
+        index,
+        x: shifted(x),
+        y: shifted(y),
+    };
+    if !on_sheet(west, east, query.x, query.y) {
+        return Err(Refused {
+            number: 20,
+            item: 0,
+        });
     }
-    let w = shifted(west);
-    let e = shifted(east);
-    let px = shifted(x);
-    let py = shifted(y);
-    if !on_sheet(w, e, px, py) {
-        return refused(20, 0);
+    if trail.len() < bit_length(sheet.zones - 1) as usize {
+        return Err(Refused {
+            number: 21,
+            item: 0,
+        });
     }
-    if trail.len() < bit_length(zones - 1) as usize {
-        return refused(21, 0);
-    }
+    // A fixed buffer: no heap, memory of a known size.
     let mut examined = [0u32; MAX_EXAMINED];
-    let found = descend(w, e, vertices, edges, zones, index, px, py, &mut examined);
+    let found = descend(&query, &mut examined)?;
     let count = found.examined as usize;
     write(&examined[..count], trail, 0);
-    found
+    Ok(found)
 }

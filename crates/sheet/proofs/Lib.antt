@@ -2,3 +2,4 @@
 pub mod Scans
 pub mod Unnamed
 pub mod Whole
+pub mod CircleRefused

@@ -2,63 +2,48 @@
 #![tactic(auto)]
 
 ghost use Rattle.std.specs.Prelude.{◌≡◌, ◌↔◌, ℕ};
-ghost use Rattle.subdivision.specs.declared.Verdict.{Verdict};
-ghost use Rattle.subdivision.specs.Sheet.{sheet_of};
+ghost use Rattle.subdivision.specs.Results.{passed, refused};
 ghost use Rattle.subdivision.specs.Refusals.{judged, limit_refusals};
 ghost use Rattle.subdivision.specs.Faults.{GivenBy, LowestOnCircle, table_refusals};
 ghost use Rattle.subdivision.specs.Accepted.{Accepted};
 ghost use Rattle.subdivision.specs.Earlier.{earlier_table_refusals, GivenAsBefore};
+ghost use Rattle.tables.specs.Lent.{lent};
 ghost use Rattle.sheet.specs.Judgement.{line_left};
 
 use crate::margins::margins_kept;
 use crate::parts::{judge_drawing, judge_records, judge_zones};
 use counts::counts_kept;
-use subdivision::{MAX_ZONES, Verdict};
+use subdivision::{MAX_ZONES, Refused};
+use tables::LentSheet;
 
 mod margins;
 mod parts;
 
 // The limits: refusal 1, then refusal 2.
-pub fn limits(west: i32, east: i32, vertices: &[i32], edges: &[u32], zones: u32) -> Verdict
-    ensures { result ≡ judged (limit_refusals (sheet_of west east vertices.now edges.now zones)) }
+pub fn limits(sheet: LentSheet) -> Result<(), Refused>
+    ensures { result ≡ judged (limit_refusals (lent sheet.entry)) }
 {
-    if !counts_kept(vertices, edges, zones) {
-        return Verdict::Refused(1, 0);
+    if !counts_kept(sheet.tables, sheet.zones) {
+        return Err(Refused { number: 1, item: 0 });
     }
-    if !margins_kept(west, east) {
-        return Verdict::Refused(2, 0);
+    if !margins_kept(sheet.west, sheet.east) {
+        return Err(Refused { number: 2, item: 0 });
     }
-    Verdict::Passed
+    Ok(())
 }
 
 // The tables judged: refusals 1, 2 and 4 to 13, in order. Where they pass, the line of zones is
 // written to the front of `line`; a refusal writes nothing.
-pub fn rules(
-    west: i32,
-    east: i32,
-    vertices: &[i32],
-    edges: &[u32],
-    zones: u32,
-    line: &mut [u32; MAX_ZONES],
-) -> Verdict
-    ensures verdict { result ≡ judged (table_refusals (sheet_of west east vertices.now edges.now zones)) }
-    ensures written { line.new ≡ line_left (sheet_of west east vertices.now edges.now zones) result line.old }
-    ensures accepted { (result ≡ Verdict.Passed) ↔ Accepted (sheet_of west east vertices.now edges.now zones) }
-    ensures refused { (number item : ℕ) → (result ≡ Verdict.Refused number item) ↔ GivenBy (table_refusals (sheet_of west east vertices.now edges.now zones)) number item }
-    ensures circle { (item : ℕ) → result ≡ Verdict.Refused 13 item → LowestOnCircle (sheet_of west east vertices.now edges.now zones) item }
-    ensures as_before { GivenAsBefore (earlier_table_refusals (sheet_of west east vertices.now edges.now zones)) (λ number item. result ≡ Verdict.Refused number item) }
+pub fn rules(sheet: LentSheet, line: &mut [u32; MAX_ZONES]) -> Result<(), Refused>
+    ensures verdict { result ≡ judged (table_refusals (lent sheet.entry)) }
+    ensures written { line.new ≡ line_left (lent sheet.entry) result line.old }
+    ensures accepted { (result ≡ passed) ↔ Accepted (lent sheet.entry) }
+    ensures refused { (number item : ℕ) → (result ≡ refused number item) ↔ GivenBy (table_refusals (lent sheet.entry)) number item }
+    ensures circle { (item : ℕ) → result ≡ refused 13 item → LowestOnCircle (lent sheet.entry) item }
+    ensures as_before { GivenAsBefore (earlier_table_refusals (lent sheet.entry)) (λ number item. result ≡ refused number item) }
 {
-    match limits(west, east, vertices, edges, zones) {
-        Verdict::Refused(number, item) => return Verdict::Refused(number, item),
-        Verdict::Passed => {}
-    }
-    match judge_records(west, east, vertices, edges, zones) {
-        Verdict::Refused(number, item) => return Verdict::Refused(number, item),
-        Verdict::Passed => {}
-    }
-    match judge_drawing(west, east, vertices, edges, zones) {
-        Verdict::Refused(number, item) => return Verdict::Refused(number, item),
-        Verdict::Passed => {}
-    }
-    judge_zones(west, east, vertices, edges, zones, line)
+    limits(sheet)?;
+    judge_records(sheet)?;
+    judge_drawing(sheet)?;
+    judge_zones(sheet, line)
 }

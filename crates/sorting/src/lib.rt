@@ -2,4 +2,5 @@
 #![tactic(auto)]
 
 pub mod groups;
+pub mod keyed;
 pub mod order;

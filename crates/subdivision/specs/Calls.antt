@@ -1,9 +1,7 @@
 -- The three calls, each with its refusals in order: document 01, "Why the desk refuses".
-use Rattle.std.specs.Prelude.{true, false, List, ℕ, ℤ, length}
+use Rattle.std.specs.Prelude.{true, false, List, ℕ, ℤ, Ok, Err, length}
 use Rattle.subdivision.specs.declared.Answer.{Answer}
-use Rattle.subdivision.specs.declared.Verdict.{Verdict}
-use Rattle.subdivision.specs.declared.Verdict.TheVariants.{Passed, Refused}
-use Rattle.subdivision.specs.declared.Found.{Found}
+use Rattle.subdivision.specs.Results.{Verdict, Reply, Search, passed, refused}
 use Rattle.subdivision.specs.Formula.{holds}
 use Rattle.subdivision.specs.Sheet.{Sheet, shifted}
 use Rattle.subdivision.specs.Limits.{Limits, limits}
@@ -21,18 +19,18 @@ pub record Opened : Type 0 where
 
 -- what a call of the quick search leaves: its result and the lent trail
 pub record Searched : Type 0 where
-  pub found : Found
+  pub found : Search
   pub trail : List ℕ
 
--- a refused search: both counts 0, the trail as it was
+-- a refused search: the trail as it was
 abbrev pub search_refused : ℕ → ℕ → List ℕ → Searched
 search_refused number item trail =
-    record { found = record { answer = Answer.Refused number item; examined = 0; probes = 0 }; trail = trail }
+    record { found = refused number item; trail = trail }
 
 -- an answered search: the counts of the descent, and its examined edges written over the front of the trail
 abbrev pub search_answered : Answer → Descent → List ℕ → Searched
 search_answered a d trail =
-    record { found = record { answer = a; examined = length d.trail; probes = d.probes }; trail = put d.trail trail }
+    record { found = Ok (record { answer = a; examined = length d.trail; probes = d.probes }); trail = put d.trail trail }
 
 -- the descent's last turn as a search's result; refusal 22 where it is damaged
 abbrev pub search_ended : Turn → List ℕ → Searched
@@ -44,23 +42,23 @@ module _ (l : Limits) (s : Sheet) where
   -- opening, under limits: checks 1 to 13 in this order and then writes the index
   abbrev pub opening_under : List ℕ → Opened
   opening_under index =
-      elim (judged (opening_refusals_under l s (length index))) [ Passed ↦ record { verdict = Passed; index = put (index_words s) index } | Refused number item ↦ record { verdict = Refused number item; index = index } ]
+      elim (judged (opening_refusals_under l s (length index))) [ Ok u ↦ record { verdict = passed; index = put (index_words s) index } | Err e ↦ record { verdict = Err e; index = index } ]
 
   -- the plain reading, under limits: checks 1, 2, 4 to 13, 20 and needs no index
-  abbrev pub reading_under : ℤ → ℤ → Answer
+  abbrev pub reading_under : ℤ → ℤ → Reply
   reading_under x y =
       elim (judged (table_refusals_under l s)) [
-        | Refused number item ↦ Answer.Refused number item
-        | Passed ↦
-            elim (holds (on_sheet_under s l (shifted x) (shifted y))) [ false ↦ Answer.Refused 20 0 | true ↦ plain_reading s (shifted x) (shifted y) ]
+        | Err e ↦ Err e
+        | Ok u ↦
+            elim (holds (on_sheet_under s l (shifted x) (shifted y))) [ false ↦ refused 20 0 | true ↦ Ok (plain_reading s (shifted x) (shifted y)) ]
       ]
 
   -- the quick search, under limits: checks 1, 2, 3, 20, 21, and 22 as it goes
   abbrev pub searching_under : List ℕ → ℤ → ℤ → List ℕ → Searched
   searching_under index x y trail =
       elim (judged (search_refusals_under l s (length index) (shifted x) (shifted y) (length trail))) [
-        | Refused number item ↦ search_refused number item trail
-        | Passed ↦ search_ended (index_descent_under l s index (shifted x) (shifted y)) trail
+        | Err e ↦ search_refused e.number e.item trail
+        | Ok u ↦ search_ended (index_descent_under l s index (shifted x) (shifted y)) trail
       ]
 
 module _ (s : Sheet) where
@@ -69,7 +67,7 @@ module _ (s : Sheet) where
   opening index = opening_under limits s index
 
   -- the plain reading checks 1, 2, 4 to 13, 20 and needs no index
-  unfoldable pub reading : ℤ → ℤ → Answer
+  unfoldable pub reading : ℤ → ℤ → Reply
   reading x y = reading_under limits s x y
 
   -- the quick search checks 1, 2, 3, 20, 21, and 22 as it goes

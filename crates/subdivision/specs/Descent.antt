@@ -1,11 +1,10 @@
 -- The descent: document 01, "Index and descent", second and third paragraph, and refusal 22. Points are shifted.
-use Rattle.std.specs.Prelude.{Bool, true, false, List, [], ◌∷◌, ◌++◌, ℕ, zero, suc, ◌+◌, ◌*◌, ◌-◌, ◌/◌, leb, ltb, get_or}
+use Rattle.std.specs.Prelude.{Bool, true, false, List, [], ◌∷◌, ◌++◌, ℕ, zero, suc, ◌+◌, ◌*◌, ◌-◌, ◌/◌, leb, ltb, get_or, Option, Some, None}
 use Rattle.subdivision.specs.declared.Answer.{Answer}
 use Rattle.subdivision.specs.declared.Answer.TheVariants.{Vertex, Edge, Zone}
 use Rattle.subdivision.specs.declared.Look.{Look}
 use Rattle.subdivision.specs.declared.Look.TheVariants.{Faulty, West, Covering, Beyond}
 use Rattle.subdivision.specs.declared.Probed.{Probed}
-use Rattle.subdivision.specs.declared.Probed.TheVariants.{Covered, Missing}
 use Rattle.subdivision.specs.declared.Side.TheVariants.{Below, On, Above}
 use Rattle.subdivision.specs.Formula.{Formula, is_less, is_at_most, both, not_so, holds}
 use Rattle.subdivision.specs.Dyadic.{top_bit, left_son, right_son}
@@ -85,22 +84,22 @@ module _ (s : Sheet) (w : LookUps) where
         ]
 
     -- the entries from lo to before hi are probed in the middle, rounded down, within so many probes; each look is one probe
-    abbrev pub probe : ℕ → ℕ → ℕ → ℕ → Probed
-    probe zero lo hi probes = Missing
+    abbrev pub probe : ℕ → ℕ → ℕ → ℕ → Option Probed
+    probe zero lo hi probes = None
     probe (suc fuel) lo hi probes =
         elim (ltb lo hi) [
-          | false ↦ Missing
+          | false ↦ None
           | true ↦
               elim (look (w.entry ((lo + hi) / 2))) [
-                | Faulty ↦ Missing
+                | Faulty ↦ None
                 | West ↦ probe fuel lo ((lo + hi) / 2) (suc probes)
-                | Covering ↦ Covered (w.entry ((lo + hi) / 2)) (suc probes)
+                | Covering ↦ Some (record { edge = w.entry ((lo + hi) / 2); probes = suc probes })
                 | Beyond ↦ probe fuel ((lo + hi) / 2 + 1) hi (suc probes)
               ]
         ]
 
     -- the entries of chain k are probed, with so many probes before
-    abbrev pub probe_chain : ℕ → ℕ → Probed
+    abbrev pub probe_chain : ℕ → ℕ → Option Probed
     probe_chain k probes = probe (w.start (k + 1)) (w.start k) (w.start (k + 1)) probes
 
 -- on an examined edge the answer is the vertex if the point is one of its ends, else the edge
@@ -144,7 +143,7 @@ module _ (s : Sheet) (w : LookUps) (x y : ℕ) where
       elim (breaks w (starts_sound s w d.k)) [
         | true ↦ damaged
         | false ↦
-            elim (probe_chain s w x d.k d.probes) [ Covered e probes ↦ examined d e probes | Missing ↦ damaged ]
+            elim (probe_chain s w x d.k d.probes) [ Some p ↦ examined d p.edge p.probes | None ↦ damaged ]
       ]
 
   -- at i = j the answer is the zone at that place

@@ -12,6 +12,7 @@ pub mod Neighbours
 pub mod Rules
 pub mod ZoneLine
 pub mod Layout
+pub mod Results
 pub mod Refusals
 pub mod Faults
 pub mod Accepted

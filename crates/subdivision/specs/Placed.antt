@@ -1,7 +1,8 @@
 -- Where a point is, as statements: the second demand, and document 01, "The plain reading of a point".
 -- Beside each that has a formula, by `refl`, that it is what the formula means.
-use Rattle.std.specs.Prelude.{◌≡◌, refl, ◌⊎◌, ◌↔◌, ℕ, ◌*◌, ◌-◌, ◌<◌, ◌≤◌}
+use Rattle.std.specs.Prelude.{◌≡◌, refl, ◌⊎◌, ◌↔◌, ℕ, ◌*◌, ◌-◌, ◌<◌, ◌≤◌, Ok, Err}
 use Rattle.subdivision.specs.declared.Answer.{Answer}
+use Rattle.subdivision.specs.Results.{Reply}
 use Rattle.subdivision.specs.Formula.{Means}
 use Rattle.subdivision.specs.Sheet.{Sheet, west_margin, east_margin, vertex_count, edge_count, zone_count, x_of, y_of, west_of, east_of, above_of, below_of, segment}
 use Rattle.subdivision.specs.Lines.{point_part, edge_part, is_on}
@@ -34,14 +35,14 @@ module _ (s : Sheet) where
   OffEdges x y = (e : ℕ) → e < edge_count s → IsOn x y e → ⊥
 
   -- the point is in one thing only, and that is the answer: one vertex, where every edge through it ends; or no vertex and one edge; or no vertex, no edge and a zone
-  abbrev pub InOneThing : ℕ → ℕ → Answer → Type 0
-  InOneThing x y (Answer.Vertex v) =
+  abbrev pub InOneThing : ℕ → ℕ → Reply → Type 0
+  InOneThing x y (Ok (Answer.Vertex v)) =
       ((v < vertex_count s) × IsVertex x y v)
       × (((u : ℕ) → u < vertex_count s → IsVertex x y u → u ≡ v)
       × ((e : ℕ) → e < edge_count s → IsOn x y e → (west_of s e ≡ v) ⊎ (east_of s e ≡ v)))
-  InOneThing x y (Answer.Edge e) = OffVertices x y × (((e < edge_count s) × IsOn x y e) × ((f : ℕ) → f < edge_count s → IsOn x y f → f ≡ e))
-  InOneThing x y (Answer.Zone z) = OffVertices x y × (OffEdges x y × (z < zone_count s))
-  InOneThing x y (Answer.Refused number item) = ⊥
+  InOneThing x y (Ok (Answer.Edge e)) = OffVertices x y × (((e < edge_count s) × IsOn x y e) × ((f : ℕ) → f < edge_count s → IsOn x y f → f ≡ e))
+  InOneThing x y (Ok (Answer.Zone z)) = OffVertices x y × (OffEdges x y × (z < zone_count s))
+  InOneThing x y (Err e) = ⊥
 
   -- edge e covers abscissa x: its western x <= x < its eastern x, and for x = E its eastern x = E
   abbrev pub Covers : ℕ → ℕ → Type 0
@@ -101,13 +102,13 @@ module _ (s : Sheet) where
     pub from_overhead_west : Inland x → zone_overhead_west s x y ≡ z
 
   -- the second demand, its first half: on an accepted sheet every point on it is in one thing only, and that is the answer
-  abbrev pub OneThingOnly : ℕ → ℕ → Answer → Type 0
+  abbrev pub OneThingOnly : ℕ → ℕ → Reply → Type 0
   OneThingOnly x y r = Accepted s → OnSheet x y → InOneThing x y r
 
   -- the second demand, its second half: off every vertex and edge the answer is a zone, and however the point is read it is that zone
-  abbrev pub ReadingsAgree : ℕ → ℕ → Answer → Type 0
+  abbrev pub ReadingsAgree : ℕ → ℕ → Reply → Type 0
   ReadingsAgree x y r =
-      Accepted s → OnSheet x y → OffVertices x y → OffEdges x y → (z : ℕ) × (r ≡ Answer.Zone z) × (ZonesAgree x y z × ReadSo x y z)
+      Accepted s → OnSheet x y → OffVertices x y → OffEdges x y → (z : ℕ) × (r ≡ Ok (Answer.Zone z)) × (ZonesAgree x y z × ReadSo x y z)
 
   pub on_sheet_says : (x y : ℕ) → Means (on_sheet s x y) ≡ OnSheet x y
   on_sheet_says x y = refl

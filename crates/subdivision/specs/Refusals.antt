@@ -1,7 +1,6 @@
 -- Why a sheet is refused: document 01, "Why the desk refuses", lines 1 to 13 of its table, and the room that line 21 asks for.
 use Rattle.std.specs.Prelude.{true, false, not, List, [], ◌∷◌, ℕ, ◌-◌, ◌%◌, length}
-use Rattle.subdivision.specs.declared.Verdict.{Verdict}
-use Rattle.subdivision.specs.declared.Verdict.TheVariants.{Passed, Refused}
+use Rattle.subdivision.specs.Results.{Verdict, passed, refused}
 use Rattle.subdivision.specs.Limits.{Limits, limits}
 use Rattle.subdivision.specs.Formula.{Formula, is_less, is_at_most, is_equal, both, not_so, every_below, holds}
 use Rattle.subdivision.specs.Lowest.{lowest}
@@ -32,8 +31,8 @@ for_each number items clause = record { number = number; kept = every_below item
 
 -- where several apply, the first in the call's order is given
 abbrev pub judged : List Refusal → Verdict
-judged [] = Passed
-judged (r ∷ rs) = elim (holds r.kept) [ true ↦ judged rs | false ↦ Refused r.number (names r) ]
+judged [] = passed
+judged (r ∷ rs) = elim (holds r.kept) [ true ↦ judged rs | false ↦ refused r.number (names r) ]
 
 -- so many vertices, edges and zones are within limits
 abbrev pub counts_within_under : Limits → ℕ → ℕ → ℕ → Formula

@@ -1,8 +1,6 @@
 -- Sheets signed for before P5: what a sheet within the limits as they were keeps, by the calls' definitions under those limits.
 use Rattle.std.specs.Prelude.{◌≡◌, refl, List, ◌⊎◌, ℕ, ◌<◌, ◌≤◌, ℤ}
-use Rattle.subdivision.specs.declared.Answer.{Answer}
-use Rattle.subdivision.specs.declared.Verdict.{Verdict}
-use Rattle.subdivision.specs.declared.Found.{Found}
+use Rattle.subdivision.specs.Results.{Verdict, Reply, Search, refused, reply_of}
 use Rattle.subdivision.specs.Limits.{Limits, earlier_limits, lowest_under, highest_under}
 use Rattle.subdivision.specs.Formula.{Means}
 use Rattle.subdivision.specs.Sheet.{Sheet, shifted, west_margin, east_margin, vertex_count, edge_count, zone_count, x_of, y_of}
@@ -26,8 +24,8 @@ pub record Within (l : Limits) (s : Sheet) : Type 0 where
   pub inside : (v : ℕ) → v < vertex_count s → InRangeUnder l (x_of s v) × InRangeUnder l (y_of s v)
 
 -- an answer before was refusal 20, for a y beyond the range as it was
-abbrev pub WasBeyond : ℤ → Answer → Type 0
-WasBeyond y before = (InRangeUnder earlier_limits (shifted y) → ⊥) × (before ≡ Answer.Refused 20 0)
+abbrev pub WasBeyond : ℤ → Reply → Type 0
+WasBeyond y before = (InRangeUnder earlier_limits (shifted y) → ⊥) × (before ≡ refused 20 0)
 
 module _ (s : Sheet) where
   -- opening a sheet within the limits as they were gives the verdict that it gave, and leaves the words that it left
@@ -37,14 +35,14 @@ module _ (s : Sheet) where
       → (verdict ≡ (opening_under earlier_limits s index).verdict) × (words ≡ (opening_under earlier_limits s index).index)
 
   -- on a sheet within the limits as they were the plain reading is what it was, unless the point was beyond the range
-  abbrev pub ReadAsSigned : ℤ → ℤ → Answer → Type 0
+  abbrev pub ReadAsSigned : ℤ → ℤ → Reply → Type 0
   ReadAsSigned x y answer =
       Within earlier_limits s
       → (answer ≡ reading_under earlier_limits s x y) ⊎ WasBeyond y (reading_under earlier_limits s x y)
 
   -- over any index, and any trail, the quick search of such a sheet gives and leaves what it did, unless the point was beyond the range
-  abbrev pub SearchedAsSigned : List ℕ → ℤ → ℤ → List ℕ → Found → List ℕ → Type 0
+  abbrev pub SearchedAsSigned : List ℕ → ℤ → ℤ → List ℕ → Search → List ℕ → Type 0
   SearchedAsSigned index x y trail found after =
       Within earlier_limits s
       → ((found ≡ (searching_under earlier_limits s index x y trail).found) × (after ≡ (searching_under earlier_limits s index x y trail).trail))
-      ⊎ WasBeyond y (searching_under earlier_limits s index x y trail).found.answer
+      ⊎ WasBeyond y (reply_of (searching_under earlier_limits s index x y trail).found)

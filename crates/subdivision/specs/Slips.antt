@@ -2,7 +2,8 @@
 use Rattle.std.specs.Prelude.{◌≡◌, refl, List, [], ◌∷◌, ℕ, ℤ, pos, negsuc}
 use Rattle.subdivision.specs.declared.Answer.{Answer}
 use Rattle.subdivision.specs.declared.Answer.TheVariants.{Zone}
-use Rattle.subdivision.specs.declared.Verdict.TheVariants.{Passed, Refused}
+use Rattle.std.specs.Prelude.{Ok, Err}
+use Rattle.subdivision.specs.Results.{passed, refused}
 use Rattle.subdivision.specs.Lowest.{lowest}
 use Rattle.subdivision.specs.Lists.{tab}
 use Rattle.subdivision.specs.Dyadic.{bits, top_bit, low_bit, lca}
@@ -47,20 +48,20 @@ four_readings s x y =
 pub slips_told_apart :
     (w : ℕ → ℕ) →
     -- the terraces are accepted, with their index
-    (opening terraces (tab w 22) ≡ record { verdict = Passed; index = terrace_index })
+    (opening terraces (tab w 22) ≡ record { verdict = passed; index = terrace_index })
     -- nothing beneath is the first zone of the line, and not zone 0
-    × (reading terraces (pos 1) (negsuc 4) ≡ Zone 2)
+    × (reading terraces (pos 1) (negsuc 4) ≡ Ok (Zone 2))
     -- at a vertex abscissa the edge to its east covers; a chain once passed is not examined again; each look is counted
-    × (searching terraces terrace_index (pos 2) (pos 25) (tab w 3) ≡ record { found = record { answer = Zone 1; examined = 2; probes = 4 }; trail = 5 ∷ 8 ∷ w 2 ∷ [] })
+    × (searching terraces terrace_index (pos 2) (pos 25) (tab w 3) ≡ record { found = Ok (record { answer = Zone 1; examined = 2; probes = 4 }); trail = 5 ∷ 8 ∷ w 2 ∷ [] })
     -- a name changed where two edges end on one abscissa is refused, at that vertex
-    × (opening hidden_name (tab w 12) ≡ record { verdict = Refused 11 1; index = tab w 12 })
+    × (opening hidden_name (tab w 12) ≡ record { verdict = refused 11 1; index = tab w 12 })
     -- a height of two thirds is neither 0 nor 1
-    × (reading flat_edge (pos 2) (pos 0) ∷ reading flat_edge (pos 2) (pos 1) ∷ [] ≡ Zone 0 ∷ Zone 1 ∷ [])
+    × (reading flat_edge (pos 2) (pos 0) ∷ reading flat_edge (pos 2) (pos 1) ∷ [] ≡ Ok (Zone 0) ∷ Ok (Zone 1) ∷ [])
     -- the four readings agree on the terraces, and differ where the name is changed
     × (four_readings terraces (pos 1) (pos 15) ≡ 3 ∷ 3 ∷ 3 ∷ 3 ∷ [])
     × (four_readings hidden_name (pos 1) (pos 5) ≡ 2 ∷ 2 ∷ 1 ∷ 2 ∷ [])
     -- on a sheet that breaks rule 5, and no rule before it, no two of the four agree
-    × (reading scattered (pos 1) (pos 5) ≡ Answer.Refused 11 0)
+    × (reading scattered (pos 1) (pos 5) ≡ refused 11 0)
     × (four_readings scattered (pos 1) (pos 5) ≡ 2 ∷ 3 ∷ 4 ∷ 5 ∷ [])
 unfolding terraces terrace_index hidden_name scattered flat_edge four_readings opening reading searching descent index_descent place_of zone_at chain_of eastward chain start_of index_words first_zone last_zone zone_beneath zone_overhead zone_beneath_west zone_overhead_west plain_reading next_zone zone_line in_order bits top_bit low_bit lca lowest tab
 slips_told_apart w = (refl, refl, refl, refl, refl, refl, refl, refl, refl)

@@ -1,6 +1,7 @@
 -- The zone that refusal 13 names, in the cases of document 02's P4, computed from the definitions.
 use Rattle.std.specs.Prelude.{◌≡◌, refl, true, false, [], ◌∷◌, ℕ, pos, negsuc}
-use Rattle.subdivision.specs.declared.Verdict.TheVariants.{Refused}
+use Rattle.std.specs.Prelude.{Ok, Err}
+use Rattle.subdivision.specs.Results.{refused}
 use Rattle.subdivision.specs.Formula.{holds}
 use Rattle.subdivision.specs.Lowest.{lowest}
 use Rattle.subdivision.specs.Lists.{tab}
@@ -25,12 +26,12 @@ pub worked_circles :
     -- of the circle case of document 01, which still names zone 1 (`worked_refusals`), zones 1 and 2 are on the circle
     (tab (λ z. holds (on_circle (two_lenses 1 2) z)) 4 ≡ false ∷ true ∷ true ∷ false ∷ [])
     -- the circle between 5 and 6 beneath zone 2 names 5
-    × (opening beneath_two (tab w 35) ≡ record { verdict = Refused 13 5; index = tab w 35 })
+    × (opening beneath_two (tab w 35) ≡ record { verdict = refused 13 5; index = tab w 35 })
     -- its zones on the circle are 5 and 6, of which 6 is the highest
     × (tab (λ z. holds (on_circle beneath_two z)) 7 ≡ false ∷ false ∷ false ∷ false ∷ false ∷ true ∷ true ∷ [])
     -- zone 2 has the circle below it without being on it, and is what the line named before
     × (tab (λ z. holds (above_circle beneath_two z)) 7 ≡ false ∷ false ∷ true ∷ false ∷ false ∷ true ∷ true ∷ [])
-    × (judged (earlier_table_refusals beneath_two) ≡ Refused 13 2)
+    × (judged (earlier_table_refusals beneath_two) ≡ refused 13 2)
     × (names (earlier_circle_refusal (two_lenses 1 2)) ≡ 1)
 unfolding two_lenses beneath_two opening next_zone zone_line in_order bits top_bit low_bit lca lowest tab
 worked_circles w = (refl, refl, refl, refl, refl, refl)

@@ -1,7 +1,8 @@
 -- The limits in document 02's P5 and the limits before it, computed from the definitions on the cases at their edges.
 use Rattle.std.specs.Prelude.{◌≡◌, refl, true, false, [], ◌∷◌, ℕ, suc, ◌-◌, ◌%◌, pos}
 use Rattle.subdivision.specs.declared.Answer.{Answer}
-use Rattle.subdivision.specs.declared.Verdict.TheVariants.{Passed, Refused}
+use Rattle.std.specs.Prelude.{Ok, Err}
+use Rattle.subdivision.specs.Results.{Reply, passed, refused, reply_of}
 use Rattle.subdivision.specs.declared.Segment.{Segment}
 use Rattle.subdivision.specs.declared.Side.{Side}
 use Rattle.subdivision.specs.declared.Side.TheVariants.{Below, On, Above}
@@ -63,19 +64,19 @@ pub worked_limits :
     × (holds (in_range 1147483647) ≡ false)
     × (holds (in_range 3147483649) ≡ false)
     -- a trail of 11 on 4,096 zones gives 21, one of 12 has room
-    × ((searching (blank max_zones) (tab w 12289) (pos 0) (pos 0) (tab w 11)).found.answer ≡ Answer.Refused 21 0)
+    × (reply_of (searching (blank max_zones) (tab w 12289) (pos 0) (pos 0) (tab w 11)).found ≡ refused 21 0)
     × (holds (trail_room (blank max_zones) 11) ≡ false)
     × (holds (trail_room (blank max_zones) max_examined) ≡ true)
     × (bits (max_zones - 1) ≡ max_examined)
     -- x = 1,000,001 stands now, and gave 4 before; as a margin it gave 2; x = 1,000,000 stood
-    × ((opening (wide_lens 1000001 1000001) (tab w 14)).verdict ≡ Passed)
-    × ((opening_under earlier_limits (wide_lens 1000000 1000001) (tab w 14)).verdict ≡ Refused 4 3)
-    × ((opening_under earlier_limits (wide_lens 1000001 1000001) (tab w 14)).verdict ≡ Refused 2 0)
-    × ((opening_under earlier_limits (wide_lens 1000000 1000000) (tab w 14)).verdict ≡ Passed)
+    × ((opening (wide_lens 1000001 1000001) (tab w 14)).verdict ≡ passed)
+    × ((opening_under earlier_limits (wide_lens 1000000 1000001) (tab w 14)).verdict ≡ refused 4 3)
+    × ((opening_under earlier_limits (wide_lens 1000001 1000001) (tab w 14)).verdict ≡ refused 2 0)
+    × ((opening_under earlier_limits (wide_lens 1000000 1000000) (tab w 14)).verdict ≡ passed)
     -- a point with y = 1,000,001 was refused 20 and is read now; one with y = 1,000,000,001 is refused 20
-    × (reading_under earlier_limits (wide_lens 4 4) (pos 2) (pos 1000001) ≡ Answer.Refused 20 0)
-    × (reading (wide_lens 4 4) (pos 2) (pos 1000001) ≡ Answer.Zone 2)
-    × (reading (wide_lens 4 4) (pos 2) (pos 1000000000) ≡ Answer.Zone 2)
-    × (reading (wide_lens 4 4) (pos 2) (pos 1000000001) ≡ Answer.Refused 20 0)
+    × (reading_under earlier_limits (wide_lens 4 4) (pos 2) (pos 1000001) ≡ refused 20 0)
+    × (reading (wide_lens 4 4) (pos 2) (pos 1000001) ≡ Ok (Answer.Zone 2))
+    × (reading (wide_lens 4 4) (pos 2) (pos 1000000000) ≡ Ok (Answer.Zone 2))
+    × (reading (wide_lens 4 4) (pos 2) (pos 1000000001) ≡ refused 20 0)
 unfolding wide_lens blank opening reading searching place_of zone_at chain_of eastward chain start_of index_words first_zone last_zone zone_beneath plain_reading next_zone zone_line in_order bits top_bit low_bit lca lowest tab
 worked_limits w = (refl, refl, refl, refl, refl, refl, refl, refl, refl, refl, refl, refl, refl, refl, refl, refl, refl, refl, refl, refl, refl, refl, refl, refl, refl)

@@ -1,7 +1,8 @@
 -- The edges of the rules in document 01's cases, and a sheet for rule 5's western clause, computed from the definitions.
 use Rattle.std.specs.Prelude.{◌≡◌, refl, true, false, not, [], ◌∷◌, ◌++◌, ℕ, pos, negsuc}
-use Rattle.subdivision.specs.declared.Verdict.{Verdict}
-use Rattle.subdivision.specs.declared.Verdict.TheVariants.{Passed, Refused}
+use Rattle.subdivision.specs.Results.{Verdict}
+use Rattle.std.specs.Prelude.{Ok, Err}
+use Rattle.subdivision.specs.Results.{passed, refused}
 use Rattle.subdivision.specs.Formula.{Formula, both, holds}
 use Rattle.subdivision.specs.Lowest.{lowest}
 use Rattle.subdivision.specs.Lists.{tab}
@@ -45,25 +46,25 @@ verdict_on s w words = (opening s (tab w words)).verdict
 pub worked_refusals :
     (w : ℕ → ℕ) →
     -- the circle: refused 13, zone 1; with the right lens as the left it is accepted
-    (opening (two_lenses 1 2) (tab w 23) ≡ record { verdict = Refused 13 1; index = tab w 23 })
-    × (verdict_on (two_lenses 2 1) w 23 ≡ Passed)
+    (opening (two_lenses 1 2) (tab w 23) ≡ record { verdict = refused 13 1; index = tab w 23 })
+    × (verdict_on (two_lenses 2 1) w 23 ≡ passed)
     -- of its zones all but 0 have a circle at them or below them: the highest stuck zone would be 3
     × (tab (λ z. holds (above_circle (two_lenses 1 2) z)) 4 ≡ false ∷ true ∷ true ∷ true ∷ [])
     -- 13 index words give 3, also where a vertex is bad
-    × (opening (wide_lens 4 4) (tab w 13) ≡ record { verdict = Refused 3 0; index = tab w 13 })
-    × (verdict_on (wide_lens 4 1000000001) w 13 ≡ Refused 3 0)
+    × (opening (wide_lens 4 4) (tab w 13) ≡ record { verdict = refused 3 0; index = tab w 13 })
+    × (verdict_on (wide_lens 4 1000000001) w 13 ≡ refused 3 0)
     -- where 3 is judged after the rules it gives 4
-    × (judged (limit_refusals (wide_lens 4 1000000001) ++ (rule_refusals (wide_lens 4 1000000001) ++ (room_refusal (wide_lens 4 1000000001) 13 ∷ []))) ≡ Refused 4 3)
+    × (judged (limit_refusals (wide_lens 4 1000000001) ++ (rule_refusals (wide_lens 4 1000000001) ++ (room_refusal (wide_lens 4 1000000001) 13 ∷ []))) ≡ refused 4 3)
     -- x = 1,000,000,000 stands, 1,000,000,001 gives 4, and as a margin 2
-    × (verdict_on (wide_lens 1000000000 1000000000) w 14 ≡ Passed)
-    × (verdict_on (wide_lens 1000000000 1000000001) w 14 ≡ Refused 4 3)
-    × (verdict_on (wide_lens 1000000001 1000000000) w 14 ≡ Refused 2 0)
+    × (verdict_on (wide_lens 1000000000 1000000000) w 14 ≡ passed)
+    × (verdict_on (wide_lens 1000000000 1000000001) w 14 ≡ refused 4 3)
+    × (verdict_on (wide_lens 1000000001 1000000000) w 14 ≡ refused 2 0)
     -- nothing drawn: n = 2 gives 12, zone 0; n = 1 is accepted, with its index
-    × (verdict_on (blank 2) w 9 ≡ Refused 12 0)
-    × (opening (blank 1) (tab w 5) ≡ record { verdict = Passed; index = 0 ∷ 0 ∷ 0 ∷ 0 ∷ w 4 ∷ [] })
-    × (verdict_on (blank 0) w 9 ≡ Refused 1 0)
+    × (verdict_on (blank 2) w 9 ≡ refused 12 0)
+    × (opening (blank 1) (tab w 5) ≡ record { verdict = passed; index = 0 ∷ 0 ∷ 0 ∷ 0 ∷ w 4 ∷ [] })
+    × (verdict_on (blank 0) w 9 ≡ refused 1 0)
     -- the wedge is refused 11 at vertex 0, by the western clause alone: by the others the lowest vertex at fault is 2
-    × (verdict_on wedge w 20 ≡ Refused 11 0)
+    × (verdict_on wedge w 20 ≡ refused 11 0)
     × (holds (western_names wedge 0) ≡ false)
     × (lowest (λ v. not (holds (other_clauses v))) 3 ≡ 2)
 unfolding two_lenses wide_lens blank wedge other_clauses verdict_on opening place_of zone_at chain_of eastward chain start_of index_words next_zone zone_line in_order bits top_bit low_bit lca lowest tab

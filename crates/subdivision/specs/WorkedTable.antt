@@ -2,7 +2,8 @@
 use Rattle.std.specs.Prelude.{◌≡◌, refl, List, [], ◌∷◌, map, ℕ, ℤ, pos, negsuc, length}
 use Rattle.subdivision.specs.declared.Answer.{Answer}
 use Rattle.subdivision.specs.declared.Answer.TheVariants.{Vertex, Edge, Zone}
-use Rattle.subdivision.specs.declared.Verdict.TheVariants.{Passed}
+use Rattle.std.specs.Prelude.{Ok, Err}
+use Rattle.subdivision.specs.Results.{Reply, passed, refused, reply_of}
 use Rattle.subdivision.specs.Lowest.{lowest}
 use Rattle.subdivision.specs.Lists.{tab}
 use Rattle.subdivision.specs.Dyadic.{bits, top_bit, low_bit, lca}
@@ -46,7 +47,7 @@ lens_cases =
 
 -- a point's row of the table: the plain reading, the published descent on the tables and the quick search over the index, each over a lent trail
 pub record Row : Type 0 where
-  pub plain : Answer
+  pub plain : Reply
   pub published : Searched
   pub quick : Searched
 
@@ -58,16 +59,16 @@ computed lent c =
 -- the answer, trail and probes of document 01
 unfoldable pub searched : List ℕ → Case → Searched
 searched lent c =
-    record { found = record { answer = c.answer; examined = length c.trail; probes = c.probes }; trail = put c.trail lent }
+    record { found = Ok (record { answer = c.answer; examined = length c.trail; probes = c.probes }); trail = put c.trail lent }
 
 -- the row as document 01 has it
 unfoldable pub expected : List ℕ → Case → Row
-expected lent c = record { plain = c.answer; published = searched lent c; quick = searched lent c }
+expected lent c = record { plain = Ok c.answer; published = searched lent c; quick = searched lent c }
 
 -- the worked table, whatever words w were lent: the lens index from the raw tables, the seven points, the three lca values
 pub worked_table :
     (w : ℕ → ℕ) →
-    (opening lens (tab w 14) ≡ record { verdict = Passed; index = lens_index })
+    (opening lens (tab w 14) ≡ record { verdict = passed; index = lens_index })
     × (map (computed (tab w 2)) lens_cases ≡ map (expected (tab w 2)) lens_cases)
     × (lca 0 11 ∷ lca 7 9 ∷ lca 9 10 ∷ [] ≡ 8 ∷ 8 ∷ 10 ∷ [])
 unfolding lens lens_index lens_cases computed searched expected opening reading searching descent published_descent index_descent place_of zone_at chain_of eastward chain start_of entry_at index_words first_zone zone_beneath plain_reading next_zone zone_line in_order bits top_bit low_bit lca lowest tab

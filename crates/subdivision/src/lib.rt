@@ -1,6 +1,8 @@
 // The answers of document 01, as types, and its limits as the sizes of local storage. The definitions over them are in specs/.
 #![tactic(auto)]
 
+use std::fmt;
+
 // At most so many vertices.
 pub const MAX_VERTICES: usize = 4096;
 
@@ -28,26 +30,43 @@ pub const HELD_EDGES: usize = 2048;
 // A program with fixed buffers holds at most so many zones.
 pub const HELD_ZONES: usize = 1024;
 
-// Where a point lies, or why it was not placed: the kinds are kept apart.
-#[derive(Clone, Copy)]
+// Why a call refuses.
+#[derive(Clone, Copy, Debug, PartialEq, Eq)]
+pub struct Refused {
+    // The refusal's number.
+    pub number: u32,
+    // The item that it names, 0 where it names none.
+    pub item: u32,
+}
+
+impl fmt::Display for Refused {
+    fn fmt<W: fmt::Write>(&self, f: &mut fmt::Formatter<W>) -> fmt::Result {
+        let number = self.number;
+        let item = self.item;
+        write!(f, "refused {number} {item}")
+    }
+}
+
+// Where a point lies: the kinds are kept apart.
+#[derive(Clone, Copy, Debug, PartialEq, Eq)]
 pub enum Answer {
     Vertex(u32),
     Edge(u32),
     Zone(u32),
-    // The refusal's number and the item that it names, 0 where it names none.
-    Refused(u32, u32),
 }
 
-// What a judgement of the tables, or opening, says of a sheet.
-#[derive(Clone, Copy)]
-pub enum Verdict {
-    Passed,
-    // The refusal's number and the item that it names, 0 where it names none.
-    Refused(u32, u32),
+impl fmt::Display for Answer {
+    fn fmt<W: fmt::Write>(&self, f: &mut fmt::Formatter<W>) -> fmt::Result {
+        match self {
+            Answer::Vertex(v) => write!(f, "vertex {v}"),
+            Answer::Edge(e) => write!(f, "edge {e}"),
+            Answer::Zone(z) => write!(f, "zone {z}"),
+        }
+    }
 }
 
 // What the quick search gives back beside the trail.
-#[derive(Clone, Copy)]
+#[derive(Clone, Copy, Debug, PartialEq, Eq)]
 pub struct Found {
     pub answer: Answer,
     pub examined: u32,
@@ -55,15 +74,25 @@ pub struct Found {
 }
 
 // The side of an edge on which a point lies.
-#[derive(Clone, Copy)]
+#[derive(Clone, Copy, Debug, PartialEq, Eq)]
 pub enum Side {
     Below,
     On,
     Above,
 }
 
+impl fmt::Display for Side {
+    fn fmt<W: fmt::Write>(&self, f: &mut fmt::Formatter<W>) -> fmt::Result {
+        match self {
+            Side::Below => write!(f, "below"),
+            Side::On => write!(f, "on"),
+            Side::Above => write!(f, "above"),
+        }
+    }
+}
+
 // What a probe sees at an entry of a chain, against an abscissa.
-#[derive(Clone, Copy)]
+#[derive(Clone, Copy, Debug, PartialEq, Eq)]
 pub enum Look {
     // The entry is no edge, or its record is at fault.
     Faulty,
@@ -75,17 +104,15 @@ pub enum Look {
     Beyond,
 }
 
-// What the probes of a chain lead to.
-#[derive(Clone, Copy)]
-pub enum Probed {
-    // The covering edge, and the probes made so far.
-    Covered(u32, u32),
-    // No covering edge, or an entry at fault.
-    Missing,
+// What the probes of a chain find: the covering edge, and the probes made so far.
+#[derive(Clone, Copy, Debug, PartialEq, Eq)]
+pub struct Probed {
+    pub edge: u32,
+    pub probes: u32,
 }
 
 // An edge with its ends: the numbers of its two vertices, and their coordinates, shifted.
-#[derive(Clone, Copy)]
+#[derive(Clone, Copy, Debug, PartialEq, Eq)]
 pub struct Segment {
     pub west: u32,
     pub east: u32,

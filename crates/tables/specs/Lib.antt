@@ -1,2 +1,3 @@
 -- Definitions that the contracts of the tables cite.
 pub mod Known
+pub mod Lent

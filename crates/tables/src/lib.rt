@@ -5,7 +5,76 @@ ghost use Rattle.std.specs.Prelude.{◌≡◌, pos, ◌<◌, ◌/◌, length, ge
 ghost use Rattle.subdivision.specs.Sheet.{shifted, vertex_x, vertex_y, edge_west, edge_east, edge_above, edge_below, segment_of};
 ghost use Rattle.tables.specs.Known.{EndsKnown};
 
+use numbers::words::entry_or;
 use subdivision::Segment;
+
+// The two tables of a sheet as they are lent.
+#[derive(Clone, Copy)]
+pub struct Tables<'a> {
+    // The x and the y of each vertex.
+    pub vertices: &'a [i32],
+    // The western vertex, the eastern vertex, the zone above and the zone below of each edge.
+    pub edges: &'a [u32],
+}
+
+// A sheet as it is lent: its margins, its tables and its number of zones.
+#[derive(Clone, Copy)]
+pub struct LentSheet<'a> {
+    pub west: i32,
+    pub east: i32,
+    pub tables: Tables<'a>,
+    pub zones: u32,
+}
+
+impl<'a> Tables<'a> {
+    // V, the number of vertices.
+    pub fn vertex_count(self) -> usize
+        ensures { result ≡ length self.entry.vertices.now / 2 }
+    {
+        self.vertices.len() / 2
+    }
+
+    // m, the number of edges.
+    pub fn edge_count(self) -> usize
+        ensures { result ≡ length self.entry.edges.now / 4 }
+    {
+        self.edges.len() / 4
+    }
+
+    // Edge e with its ends.
+    pub fn segment(self, e: u32) -> Segment
+        ensures { result ≡ segment_of self.entry.vertices.now self.entry.edges.now e }
+    {
+        let west = edge_west(self.edges, e);
+        let east = edge_east(self.edges, e);
+        Segment {
+            west,
+            east,
+            xw: vertex_x(self.vertices, west),
+            yw: vertex_y(self.vertices, west),
+            xe: vertex_x(self.vertices, east),
+            ye: vertex_y(self.vertices, east),
+        }
+    }
+
+    // Edge e with its ends, where the edge and both of its vertices are known to be there: nothing is tested, which is all that
+    // `segment` does besides.
+    pub fn known_segment(self, e: u32) -> Segment
+        requires { EndsKnown self.vertices.now self.edges.now e }
+        ensures { result ≡ segment_of self.entry.vertices.now self.entry.edges.now e }
+    {
+        let west = known_west(self.edges, e);
+        let east = known_east(self.edges, e);
+        Segment {
+            west,
+            east,
+            xw: known_x(self.vertices, west),
+            yw: known_y(self.vertices, west),
+            xe: known_x(self.vertices, east),
+            ye: known_y(self.vertices, east),
+        }
+    }
+}
 
 // A signed coordinate as an unsigned one, order and differences kept.
 pub fn shifted(v: i32) -> u32
@@ -18,10 +87,7 @@ pub fn shifted(v: i32) -> u32
 fn coordinate(vertices: &[i32], at: usize) -> u32
     ensures { result ≡ shifted (get_or vertices.now at (pos 0)) }
 {
-    if at < vertices.len() {
-        return known_coordinate(vertices, at);
-    }
-    shifted(0)
+    shifted(entry_or(vertices, at, 0))
 }
 
 // The coordinate at a place of the vertices that is known to be there, shifted.
@@ -29,18 +95,14 @@ fn known_coordinate(vertices: &[i32], at: usize) -> u32
     requires { at < length vertices.now }
     ensures { result ≡ shifted (get_or vertices.now at (pos 0)) }
 {
-    let z = vertices[at];
-    shifted(z)
+    shifted(vertices[at])
 }
 
 // The word at a place of a table: 0 past its end.
 pub fn word(table: &[u32], at: usize) -> u32
     ensures { result ≡ get_or table.now at 0 }
 {
-    if at < table.len() {
-        return table[at];
-    }
-    0
+    entry_or(table, at, 0)
 }
 
 // The x of vertex v, shifted.
@@ -56,6 +118,9 @@ pub fn vertex_y(vertices: &[i32], v: u32) -> u32
 {
     coordinate(vertices, 2 * (v as usize) + 1)
 }
+
+// Each word of an edge has a function of its own, tested and known to be there: its contract names document 01's word, and one function
+// with the word as a parameter is no plainer, because each contract would choose the word by cases.
 
 // The western vertex of edge e.
 pub fn edge_west(edges: &[u32], e: u32) -> u32
@@ -83,22 +148,6 @@ pub fn edge_below(edges: &[u32], e: u32) -> u32
     ensures { result ≡ edge_below edges.now e }
 {
     word(edges, 4 * (e as usize) + 3)
-}
-
-// Edge e with its ends.
-pub fn segment(vertices: &[i32], edges: &[u32], e: u32) -> Segment
-    ensures { result ≡ segment_of vertices.now edges.now e }
-{
-    let west = edge_west(edges, e);
-    let east = edge_east(edges, e);
-    Segment {
-        west: west,
-        east: east,
-        xw: vertex_x(vertices, west),
-        yw: vertex_y(vertices, west),
-        xe: vertex_x(vertices, east),
-        ye: vertex_y(vertices, east),
-    }
 }
 
 // The western vertex of edge e, which is known to be there.
@@ -131,23 +180,6 @@ pub fn known_below(edges: &[u32], e: u32) -> u32
     ensures { result ≡ edge_below edges.now e }
 {
     edges[4 * (e as usize) + 3]
-}
-
-// Edge e with its ends, where the edge and both of its vertices are known to be there: nothing is tested.
-pub fn known_segment(vertices: &[i32], edges: &[u32], e: u32) -> Segment
-    requires { EndsKnown vertices.now edges.now e }
-    ensures { result ≡ segment_of vertices.now edges.now e }
-{
-    let west = known_west(edges, e);
-    let east = known_east(edges, e);
-    Segment {
-        west: west,
-        east: east,
-        xw: known_x(vertices, west),
-        yw: known_y(vertices, west),
-        xe: known_x(vertices, east),
-        ye: known_y(vertices, east),
-    }
 }
 
 // The x of vertex v, which is known to be there, shifted.

@@ -8,8 +8,9 @@ use native.Mathlib.Numerals.{add-one}
 use native.Mathlib.Omega.{arith, by_contra}
 use lib.ListN.{length, get_or}
 use borrow.Author.Tests.{lt-ltb, le-ltb}
+use Rattle.subdivision.specs.Results.{covered}
 use Rattle.subdivision.specs.declared.Look.TheVariants.{West, Covering, Beyond}
-use Rattle.subdivision.specs.declared.Probed.TheVariants.{Covered}
+use Rattle.std.specs.Prelude.{Option, Some, None}
 use Rattle.subdivision.specs.Accepted.{Accepted}
 use Rattle.subdivision.specs.Descent.{look, probe_chain, table_look_ups}
 use Rattle.subdivision.specs.Index.{place_of, chain_of, start_of, entry_at}
@@ -169,11 +170,11 @@ module _ (s : Sheet) (a : Accepted s) where
       short (inr p) = omega (arith, p, inside f d)
 
   -- the probes of a chain find its edge that covers x
-  pub chain_probed : (x k e probes : ℕ) → e < edge_count s → chain_of s e ≡ k → Covers s x e → (q : ℕ) × (probe_chain s (table_look_ups s) x k probes ≡ Covered e q)
+  pub chain_probed : (x k e probes : ℕ) → e < edge_count s → chain_of s e ≡ k → Covers s x e → (q : ℕ) × (probe_chain s (table_look_ups s) x k probes ≡ covered e q)
   chain_probed x k e probes b same c = go (chain_has_entry k e b same)
     where
       go : (t : ℕ) × ((start_of s k ≤ t) × (t < start_of s (k + 1))) × (entry_at s t ≡ e)
-          → (q : ℕ) × (probe_chain s (table_look_ups s) x k probes ≡ Covered e q)
+          → (q : ℕ) × (probe_chain s (table_look_ups s) x k probes ≡ covered e q)
       go (t, (low, high), i) =
           rw i at
           (probe_finds s (table_look_ups s) x t (start_of s (k + 1)) (start_of s k) (start_of s (k + 1)) probes low high (omega arith)

@@ -11,7 +11,8 @@ use lib.Dec.{ltb}
 use lib.IntN.{ℤ, pos}
 use lib.ListN.{length}
 use borrow.Author.Tests.{ltb-false, not-true}
-use Rattle.subdivision.specs.declared.Verdict.{Verdict}
+use Rattle.std.specs.Prelude.{Ok, Err}
+use Rattle.subdivision.specs.Results.{Verdict, Reply, Search, passed, refused, reply_of, examined_of, probes_of}
 use Rattle.subdivision.specs.Formula.{Formula, is_equal, both, either, implies, not_so, every_below, some_below, holds, Means}
 use Rattle.subdivision.specs.Lowest.{lowest}
 use Rattle.subdivision.specs.Sheet.{Sheet, sheet_of, edge_above, edge_below, edge_count, zone_count, above_of, below_of}
@@ -208,14 +209,14 @@ module _ (s : Sheet) where
         circle (c, b, (o, m)) = (c, b, o)
 
     -- refusal 13 is passed where the line leaves no zone
-    pub judged_circle_kept : lowest (λ z. not (holds (is_in z (zone_line s)))) (zone_count s) ≡ zone_count s → judged (circle_refusal s ∷ []) ≡ Verdict.Passed
+    pub judged_circle_kept : lowest (λ z. not (holds (is_in z (zone_line s)))) (zone_count s) ≡ zone_count s → judged (circle_refusal s ∷ []) ≡ passed
     judged_circle_kept e = rw (held (rule7 s) (line_full.1 e), judged)
 
     -- refusal 13 is given where the line leaves a zone, and names the lowest zone on a circle
     pub judged_circle_broken : lowest (λ z. not (holds (is_in z (zone_line s)))) (zone_count s) < zone_count s
-        → judged (circle_refusal s ∷ []) ≡ Verdict.Refused 13 (lowest (λ z. holds (on_circle s z)) (zone_count s))
+        → judged (circle_refusal s ∷ []) ≡ refused 13 (lowest (λ z. holds (on_circle s z)) (zone_count s))
     judged_circle_broken h =
-        rw (fails (rule7 s) (λ full. ne_of_lt h (line_full.0 full)), judged) (ap (Verdict.Refused 13) (sym circle_named))
+        rw (fails (rule7 s) (λ full. ne_of_lt h (line_full.0 full)), judged) (ap (refused 13) (sym circle_named))
 
 module _ (west east : ℤ) (vertices : List ℤ) (edges : List ℕ) (zones : ℕ) where
   leads_of_edges : (k a b : ℕ) → leads (sheet_of west east vertices edges zones) k a b ≡ leads (sheet_of (pos 0) (pos 0) [] edges zones) k a b

@@ -7,10 +7,11 @@ use Prim.Native.Nat.{ℕ, zero, suc, ◌*◌, ◌<◌, ◌≤◌}
 use native.Mathlib.Decide.{dec_lt}
 use native.Mathlib.Omega.{arith}
 use borrow.Author.Tests.{lt-ltb, le-ltb, le-leb, lt-leb}
+use Rattle.subdivision.specs.Results.{covered}
 use Rattle.subdivision.specs.declared.Answer.{Answer}
 use Rattle.subdivision.specs.declared.Answer.TheVariants.{Zone}
 use Rattle.subdivision.specs.declared.Probed.{Probed}
-use Rattle.subdivision.specs.declared.Probed.TheVariants.{Covered, Missing}
+use Rattle.std.specs.Prelude.{Option, Some, None}
 use Rattle.subdivision.specs.declared.Side.{Side}
 use Rattle.subdivision.specs.declared.Side.TheVariants.{Below, On, Above}
 use Rattle.subdivision.specs.Formula.{Formula, is_less, is_at_most, holds, Means}
@@ -64,8 +65,8 @@ module _ (s : Sheet) (index : List ℕ) (x y : ℕ) where
       (right_son d.k, rw (lt-ltb d.i d.j h, le-ltb d.j d.k (omega arith), le-leb d.k d.i r, turn))
 
   -- an examination by what the probes give
-  abbrev given : Descent → Probed → Turn
-  given d p = elim p [ Covered e q ↦ examined s w x y d e q | Missing ↦ damaged ]
+  abbrev given : Descent → Option Probed → Turn
+  given d p = elim p [ Some c ↦ examined s w x y d c.edge c.probes | None ↦ damaged ]
 
   -- ---- a fault ends the turn damaged
 
@@ -123,12 +124,12 @@ module _ (s : Sheet) (index : List ℕ) (x y : ℕ) where
       go (inl n) = passing e o f m (inr (side, omega (arith, n)))
       go (inr (l, c)) = absurd (false≢true cc)
 
-  given_fault : (d : Descent) → Opens s index x y d → (p : Probed) → Gives s index x y d.k p → given d p ≡ damaged → FaultAt s index x y d
-  given_fault d o (Covered e q) f h =
-      ⊎_elim (λ n. place_at_fault e o f n) (λ m. side_fault d e q o f m.0 (side_at (segment s e) x y) refl m.1)
-      (broken_or_later (places_sound s w d.k e) (sided s w x y d e q (side_at (segment s e) x y)) h)
-  given_fault d o Missing (lo, hi, left, inl (some, n)) h = entry_at_fault lo hi o left some n
-  given_fault d o Missing (lo, hi, left, inr none) h = run_out lo hi o left none
+  given_fault : (d : Descent) → Opens s index x y d → (p : Option Probed) → Gives s index x y d.k p → given d p ≡ damaged → FaultAt s index x y d
+  given_fault d o (Some p) f h =
+      ⊎_elim (λ n. place_at_fault p.edge o f n) (λ m. side_fault d p.edge p.probes o f m.0 (side_at (segment s p.edge) x y) refl m.1)
+      (broken_or_later (places_sound s w d.k p.edge) (sided s w x y d p.edge p.probes (side_at (segment s p.edge) x y)) h)
+  given_fault d o None (lo, hi, left, inl (some, n)) h = entry_at_fault lo hi o left some n
+  given_fault d o None (lo, hi, left, inr none) h = run_out lo hi o left none
 
   examine_fault : (d : Descent) → d.i < d.k → d.k ≤ d.j → examine s w x y d ≡ damaged → FaultAt s index x y d
   examine_fault d l u h =

@@ -5,7 +5,8 @@ use mathlib.Core.List.{List, [], ◌∷◌, ◌++◌}
 use mathlib.Core.Logic.{inl, inr, ◌↔◌}
 use Prim.Native.Nat.{ℕ, ◌<◌, ◌≤◌}
 use native.Mathlib.Omega.{arith}
-use Rattle.subdivision.specs.declared.Verdict.{Verdict}
+use Rattle.std.specs.Prelude.{Ok, Err}
+use Rattle.subdivision.specs.Results.{Verdict, Reply, Search, passed, refused, reply_of, examined_of, probes_of}
 use Rattle.subdivision.specs.Formula.{Formula, holds, Means}
 use Rattle.subdivision.specs.Lowest.{lowest}
 use Rattle.subdivision.specs.Sheet.{Sheet, vertex_count, edge_count, zone_count, above_of, below_of}
@@ -21,6 +22,7 @@ use Rattle.theory.proofs.Decide.{means, held, denies, fails}
 use Rattle.theory.proofs.Lowest.{is_lowest_lem, lowest_le, lowest_at_most}
 use Rattle.theory.proofs.Judgement.{passed_keeps, kept_passes, none_named, lowest_fault, names_lowest, accepted_decides}
 use Rattle.theory.proofs.Circles.{line_full, some_on_circle, circle_named, earlier_named}
+use Rattle.theory.proofs.Results.{same_refusal}
 
 -- an item that a line names is the one that the judgement names
 named_one : (r : Refusal) (item : ℕ) → Named r item → item ≡ names r
@@ -40,27 +42,27 @@ Sound [] = Unit {0}
 Sound (r ∷ rs) = ((Means r.kept → ⊥) → Named r (names r)) × (Means r.kept → Sound rs)
 
 -- what is given is what the lines say
-pub given_says : (rs : List Refusal) → Sound rs → (number item : ℕ) → judged rs ≡ Verdict.Refused number item → GivenBy rs number item
+pub given_says : (rs : List Refusal) → Sound rs → (number item : ℕ) → judged rs ≡ refused number item → GivenBy rs number item
 given_says [] s number item e = let never : ◌≡◌ {A = ℕ} 0 1 = cc in absurd (omega arith)
 given_says (r ∷ rs) s number item e = go (holds r.kept) refl e (λ m. given_says rs (s.1 m) number item)
   where
     go : (b : Bool) → holds r.kept ≡ b
-        → ◌≡◌ {A = Verdict} (elim b [ true ↦ judged rs | false ↦ Verdict.Refused r.number (names r) ]) (Verdict.Refused number item)
-        → (Means r.kept → judged rs ≡ Verdict.Refused number item → GivenBy rs number item) → GivenBy (r ∷ rs) number item
+        → ◌≡◌ {A = Verdict} (elim b [ true ↦ judged rs | false ↦ refused r.number (names r) ]) (refused number item)
+        → (Means r.kept → judged rs ≡ refused number item → GivenBy rs number item) → GivenBy (r ∷ rs) number item
     go true h p rest = inr (means r.kept h, rest (means r.kept h) p)
     go false h p rest =
-        let same : item ≡ names r = cc in
-        inl (cc, (denies r.kept h, rw same (s.0 (denies r.kept h))))
+        let same = same_refusal r.number (names r) number item p in
+        inl (sym same.0, (denies r.kept h, rw (sym same.1) (s.0 (denies r.kept h))))
 
 -- what the lines say is given
-pub says_given : (rs : List Refusal) (number item : ℕ) → GivenBy rs number item → judged rs ≡ Verdict.Refused number item
+pub says_given : (rs : List Refusal) (number item : ℕ) → GivenBy rs number item → judged rs ≡ refused number item
 says_given [] number item g = absurd g
 says_given (r ∷ rs) number item (inl f) =
-    rw (fails r.kept f.1.0, judged) (λ i. Verdict.Refused (sym f.0 i) (sym (named_one r item f.1.1) i))
+    rw (fails r.kept f.1.0, judged) (λ i. refused (sym f.0 i) (sym (named_one r item f.1.1) i))
 says_given (r ∷ rs) number item (inr g) = rw (held r.kept g.0, judged) (says_given rs number item g.1)
 
 -- lines whose judgement names the right items give each refusal exactly when its own line says so
-pub given_exactly : (rs : List Refusal) → Sound rs → (number item : ℕ) → (judged rs ≡ Verdict.Refused number item) ↔ GivenBy rs number item
+pub given_exactly : (rs : List Refusal) → Sound rs → (number item : ℕ) → (judged rs ≡ refused number item) ↔ GivenBy rs number item
 given_exactly rs s number item = (given_says rs s number item, says_given rs number item)
 
 -- lines after lines
@@ -109,30 +111,30 @@ module _ (s : Sheet) where
   table_sound = sound_append (limit_refusals s) (rule_refusals s) limits_sound rules_sound
 
   -- each refusal about the tables is given exactly when its own line says so
-  pub table_refused_exactly : (number item : ℕ) → (judged (table_refusals s) ≡ Verdict.Refused number item) ↔ GivenBy (table_refusals s) number item
+  pub table_refused_exactly : (number item : ℕ) → (judged (table_refusals s) ≡ refused number item) ↔ GivenBy (table_refusals s) number item
   table_refused_exactly = given_exactly (table_refusals s) table_sound
 
   -- each refusal of the plain reading is given exactly when its own line says so
   pub reading_refused_exactly : (x y number item : ℕ)
-      → (judged (reading_refusals s x y) ≡ Verdict.Refused number item) ↔ GivenBy (reading_refusals s x y) number item
+      → (judged (reading_refusals s x y) ≡ refused number item) ↔ GivenBy (reading_refusals s x y) number item
   reading_refused_exactly x y =
       given_exactly (reading_refusals s x y) (sound_append (table_refusals s) (unnamed 20 (on_sheet s x y) ∷ []) table_sound (λ f. unnamed_sound 20 (on_sheet s x y), λ k. tt))
 
   module _ (words : ℕ) where
     -- each refusal of opening is given exactly when its own line says so
-    pub refused_exactly : (number item : ℕ) → (judged (opening_refusals s words) ≡ Verdict.Refused number item) ↔ GivenBy (opening_refusals s words) number item
+    pub refused_exactly : (number item : ℕ) → (judged (opening_refusals s words) ≡ refused number item) ↔ GivenBy (opening_refusals s words) number item
     refused_exactly =
         given_exactly (opening_refusals s words) (sound_append (limit_refusals s) (room_refusal s words ∷ rule_refusals s) limits_sound (λ f. unnamed_sound 3 (room_refusal s words).kept, λ k. rules_sound))
 
     -- of the lines that the quick search checks first, each gives its refusal exactly when it says so
     pub search_judged_exactly : (x y places number item : ℕ)
-        → (judged (search_refusals s words x y places) ≡ Verdict.Refused number item) ↔ GivenBy (search_refusals s words x y places) number item
+        → (judged (search_refusals s words x y places) ≡ refused number item) ↔ GivenBy (search_refusals s words x y places) number item
     search_judged_exactly x y places =
         given_exactly (search_refusals s words x y places)
         (sound_append (limit_refusals s) (room_refusal s words ∷ unnamed 20 (on_sheet s x y) ∷ unnamed 21 (trail_room s places) ∷ []) limits_sound (λ f. unnamed_sound 3 (room_refusal s words).kept, λ k3. (λ f. unnamed_sound 20 (on_sheet s x y), λ k20. (λ f. unnamed_sound 21 (trail_room s places), λ k21. tt))))
 
     -- a sheet is opened exactly when it is accepted and the index has room
-    pub opened_exactly : (judged (opening_refusals s words) ≡ Verdict.Passed) ↔ (Accepted s × (index_need (zone_count s) (edge_count s) ≤ words))
+    pub opened_exactly : (judged (opening_refusals s words) ≡ passed) ↔ (Accepted s × (index_need (zone_count s) (edge_count s) ≤ words))
     opened_exactly = (λ e. accept (passed_keeps (opening_refusals s words) e), λ a. kept_passes (opening_refusals s words) (keep a))
       where
         accept : AllKept (opening_refusals s words) → Accepted s × (index_need (zone_count s) (edge_count s) ≤ words)

@@ -6,8 +6,8 @@ use Prim.Native.Nat.{ℕ, ◌<◌, ◌≤◌}
 use native.Mathlib.Omega.{arith}
 use lib.ListN.{length, get_or, length-take}
 use lib.Seq.{take_at, get_or-take}
-use Rattle.subdivision.specs.declared.Verdict.{Verdict}
-use Rattle.subdivision.specs.declared.Verdict.TheVariants.{Passed, Refused}
+use Rattle.std.specs.Prelude.{Ok, Err}
+use Rattle.subdivision.specs.Results.{Verdict, Reply, Search, passed, refused, reply_of, examined_of, probes_of}
 use Rattle.subdivision.specs.Lists.{put}
 use Rattle.subdivision.specs.Layout.{index_need}
 use Rattle.subdivision.specs.Sheet.{Sheet, edge_count, zone_count}
@@ -36,22 +36,22 @@ module _ (s : Sheet) (a : Accepted s) where
 pub held_word : (s : Sheet) (index : List ℕ) → HoldsIndex s index → (t : ℕ) → t < index_need (zone_count s) (edge_count s) → get_or index t 0 ≡ get_or (index_words s) t 0
 held_word s index h t b = sym (get_or-take (index_need (zone_count s) (edge_count s)) index t 0 b) ∙ ap (λ l. get_or l t 0) h
 
-opened : (s : Sheet) (lent : List ℕ) → (opening s lent).verdict ≡ Passed → Accepted s × HoldsIndex s (opening s lent).index
+opened : (s : Sheet) (lent : List ℕ) → (opening s lent).verdict ≡ passed → Accepted s × HoldsIndex s (opening s lent).index
 unfolding opening
 opened s lent = go (judged (opening_refusals s (length lent))) refl
   where
     left : Verdict → Opened
     left v =
-        elim v [ Passed ↦ record { verdict = Passed; index = put (index_words s) lent } | Refused number item ↦ record { verdict = Refused number item; index = lent } ]
+        elim v [ Ok u ↦ record { verdict = passed; index = put (index_words s) lent } | Err e ↦ record { verdict = Err e; index = lent } ]
 
-    go : (v : Verdict) → judged (opening_refusals s (length lent)) ≡ v → (left v).verdict ≡ Passed → Accepted s × HoldsIndex s (left v).index
-    go Passed e p = let a = ((opened_exactly s (length lent)).0 e).0 in (a, written_holds s a lent)
-    go (Refused number item) e p = absurd (false≢true cc)
+    go : (v : Verdict) → judged (opening_refusals s (length lent)) ≡ v → (left v).verdict ≡ passed → Accepted s × HoldsIndex s (left v).index
+    go (Ok u) e p = let a = ((opened_exactly s (length lent)).0 e).0 in (a, written_holds s a lent)
+    go (Err r) e p = absurd (false≢true cc)
 
 -- where opening passes a sheet, it is accepted
-pub opened_accepted : (s : Sheet) (lent : List ℕ) → (opening s lent).verdict ≡ Passed → Accepted s
+pub opened_accepted : (s : Sheet) (lent : List ℕ) → (opening s lent).verdict ≡ passed → Accepted s
 opened_accepted s lent p = (opened s lent p).0
 
 -- where opening passes a sheet, the words that it leaves hold its index
-pub opened_holds : (s : Sheet) (lent : List ℕ) → (opening s lent).verdict ≡ Passed → HoldsIndex s (opening s lent).index
+pub opened_holds : (s : Sheet) (lent : List ℕ) → (opening s lent).verdict ≡ passed → HoldsIndex s (opening s lent).index
 opened_holds s lent p = (opened s lent p).1

@@ -6,8 +6,8 @@ use mathlib.Core.Logic.{◌↔◌}
 use Prim.Native.Nat.{ℕ, ◌<◌}
 use native.Mathlib.Omega.{arith}
 use borrow.Author.Tests.{not-true, not-false}
-use Rattle.subdivision.specs.declared.Verdict.{Verdict}
-use Rattle.subdivision.specs.declared.Verdict.TheVariants.{Passed, Refused}
+use Rattle.std.specs.Prelude.{Ok, Err}
+use Rattle.subdivision.specs.Results.{Verdict, Reply, Search, passed, refused, reply_of, examined_of, probes_of}
 use Rattle.subdivision.specs.Formula.{Formula, every_below, holds, Means}
 use Rattle.subdivision.specs.Lowest.{lowest}
 use Rattle.subdivision.specs.Sheet.{Sheet}
@@ -18,17 +18,17 @@ use Rattle.theory.proofs.Decide.{means, held, denies, fails, broken_item}
 use Rattle.theory.proofs.Lowest.{lowest_before, lowest_passes, lowest_at_most, lowest_le}
 use Rattle.theory.proofs.ZoneLine.{line_decides}
 
-pub passed_keeps : (rs : List Refusal) → judged rs ≡ Verdict.Passed → AllKept rs
+pub passed_keeps : (rs : List Refusal) → judged rs ≡ passed → AllKept rs
 passed_keeps [] e = tt
 passed_keeps (r ∷ rs) e = go (holds r.kept) refl e (passed_keeps rs)
   where
     go : (b : Bool) → holds r.kept ≡ b
-        → ◌≡◌ {A = Verdict} (elim b [ true ↦ judged rs | false ↦ Verdict.Refused r.number (names r) ]) Verdict.Passed
-        → (judged rs ≡ Verdict.Passed → AllKept rs) → Means r.kept × AllKept rs
+        → ◌≡◌ {A = Verdict} (elim b [ true ↦ judged rs | false ↦ refused r.number (names r) ]) passed
+        → (judged rs ≡ passed → AllKept rs) → Means r.kept × AllKept rs
     go true h p rest = (means r.kept h, rest p)
     go false h p rest = let never : ◌≡◌ {A = ℕ} 0 1 = cc in absurd (omega arith)
 
-pub kept_passes : (rs : List Refusal) → AllKept rs → judged rs ≡ Verdict.Passed
+pub kept_passes : (rs : List Refusal) → AllKept rs → judged rs ≡ passed
 kept_passes [] k = refl
 kept_passes (r ∷ rs) k = rw (held r.kept k.0, judged) (kept_passes rs k.1)
 
@@ -58,27 +58,27 @@ names_lowest number items clause f = lowest_fault items clause below
 
 -- refusals in two lists, one after the other: those of the second are looked at where the first passes
 pub judged_append : (rs qs : List Refusal)
-    → judged (rs ++ qs) ≡ (elim (judged rs) [ Passed ↦ judged qs | Refused number item ↦ Verdict.Refused number item ])
+    → judged (rs ++ qs) ≡ (elim (judged rs) [ Ok u ↦ judged qs | Err e ↦ Err e ])
 judged_append [] qs = refl
 judged_append (r ∷ rs) qs = go (holds r.kept) (judged_append rs qs)
   where
     and_then : Verdict → Verdict
-    and_then v = elim v [ Passed ↦ judged qs | Refused number item ↦ Verdict.Refused number item ]
+    and_then v = elim v [ Ok u ↦ judged qs | Err e ↦ Err e ]
 
     go : (b : Bool) → judged (rs ++ qs) ≡ and_then (judged rs)
-        → ◌≡◌ {A = Verdict} (elim b [ true ↦ judged (rs ++ qs) | false ↦ Verdict.Refused r.number (names r) ])
-        (and_then (elim b [ true ↦ judged rs | false ↦ Verdict.Refused r.number (names r) ]))
+        → ◌≡◌ {A = Verdict} (elim b [ true ↦ judged (rs ++ qs) | false ↦ refused r.number (names r) ])
+        (and_then (elim b [ true ↦ judged rs | false ↦ refused r.number (names r) ]))
     go true rest = rest
     go false rest = refl
 
 -- a refusal among the first lines is given
-pub refused_first : (rs qs : List Refusal) (number item : ℕ) → judged rs ≡ Verdict.Refused number item → judged (rs ++ qs) ≡ Verdict.Refused number item
+pub refused_first : (rs qs : List Refusal) (number item : ℕ) → judged rs ≡ refused number item → judged (rs ++ qs) ≡ refused number item
 refused_first rs qs number item e =
-    judged_append rs qs ∙ (λ i. elim (e i) [ Passed ↦ judged qs | Refused n k ↦ Verdict.Refused n k ])
+    judged_append rs qs ∙ (λ i. elim (e i) [ Ok u ↦ judged qs | Err e ↦ Err e ])
 
 -- past the first lines the others decide
-pub passed_first : (rs qs : List Refusal) → judged rs ≡ Verdict.Passed → judged (rs ++ qs) ≡ judged qs
-passed_first rs qs e = judged_append rs qs ∙ (λ i. elim (e i) [ Passed ↦ judged qs | Refused n k ↦ Verdict.Refused n k ])
+pub passed_first : (rs qs : List Refusal) → judged rs ≡ passed → judged (rs ++ qs) ≡ judged qs
+passed_first rs qs e = judged_append rs qs ∙ (λ i. elim (e i) [ Ok u ↦ judged qs | Err e ↦ Err e ])
 
 -- a refusal that names nothing names 0
 pub none_named : (number : ℕ) (kept : Formula) → 0 ≡ names (unnamed number kept)
@@ -89,8 +89,8 @@ pub judged_unnamed_kept : (number : ℕ) (kept : Formula) (rs : List Refusal) �
 judged_unnamed_kept number kept rs e = rw (e, judged)
 
 -- and is given where it is not, with no item
-pub judged_unnamed_broken : (number : ℕ) (kept : Formula) (rs : List Refusal) → holds kept ≡ false → judged (unnamed number kept ∷ rs) ≡ Verdict.Refused number 0
-judged_unnamed_broken number kept rs e = rw (e, judged) (ap (Verdict.Refused number) (sym (none_named number kept)))
+pub judged_unnamed_broken : (number : ℕ) (kept : Formula) (rs : List Refusal) → holds kept ≡ false → judged (unnamed number kept ∷ rs) ≡ refused number 0
+judged_unnamed_broken number kept rs e = rw (e, judged) (ap (refused number) (sym (none_named number kept)))
 
 -- where no item breaks the clause, every item keeps it
 pub lowest_all_means : (items : ℕ) (clause : ℕ → Formula) → lowest (λ k. not (holds (clause k))) items ≡ items
@@ -116,12 +116,12 @@ judged_for_each_kept number items clause rs e =
 -- a refusal for each item is given where some item breaks its clause, and names the lowest
 pub judged_for_each_broken : (number items : ℕ) (clause : ℕ → Formula) (rs : List Refusal)
     → lowest (λ k. not (holds (clause k))) items < items
-    → judged (for_each number items clause ∷ rs) ≡ Verdict.Refused number (lowest (λ k. not (holds (clause k))) items)
+    → judged (for_each number items clause ∷ rs) ≡ refused number (lowest (λ k. not (holds (clause k))) items)
 judged_for_each_broken number items clause rs h =
     rw (fails (every_below items clause) (lowest_below_breaks items clause h), judged)
 
 -- a sheet is accepted exactly when the judgement passes it
-pub accepted_decides : (s : Sheet) → (judged (limit_refusals s ++ rule_refusals s) ≡ Verdict.Passed) ↔ Accepted s
+pub accepted_decides : (s : Sheet) → (judged (limit_refusals s ++ rule_refusals s) ≡ passed) ↔ Accepted s
 accepted_decides s = (λ e. accept (passed_keeps (limit_refusals s ++ rule_refusals s) e), λ a. kept_passes (limit_refusals s ++ rule_refusals s) (keep a))
   where
     accept : AllKept (limit_refusals s ++ rule_refusals s) → Accepted s

@@ -75,3 +75,5 @@ pub mod Turns
 pub mod WithinLimits
 pub mod Written
 pub mod ZoneLine
+pub mod First
+pub mod Results

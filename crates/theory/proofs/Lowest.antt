@@ -1,13 +1,15 @@
 -- Laws of the lowest number that passes a test.
 use mathlib.Core.Path.{◌≡◌, refl, sym, ap, ◌∙◌}
-use mathlib.Core.Bool.{Bool, true, false}
+use mathlib.Core.Bool.{Bool, true, false, false≢true}
 use mathlib.Core.Logic.{◌⊎◌, inl, inr, ⊎_elim}
 use Prim.Native.Nat.{ℕ, zero, suc, ◌+◌, ◌-◌, ◌<◌, ◌≤◌, zero-le, min}
 use native.Mathlib.Nat.{lt_irrefl, lt-suc_self, le_refl, not-suc-le-zero, add-zero, add-suc, suc-add}
 use native.Mathlib.Numerals.{add-one}
 use native.Mathlib.Decide.{dec_le}
 use native.Mathlib.Omega.{arith}
-use Rattle.subdivision.specs.Lowest.{lowest_from, lowest}
+use Rattle.std.specs.Prelude.{Option, Some, None, MatchOption, ltb}
+use Rattle.std.proofs.lemmas.Bool.{lt-ltb, le-ltb, ltb-true, ltb-false}
+use Rattle.subdivision.specs.Lowest.{lowest_from, lowest, found, first}
 use Rattle.theory.proofs.Decide.{not_both, true_or_false, below_suc}
 
 -- r is the lowest number below n that passes the test, or n where none does
@@ -222,3 +224,52 @@ least_is_lowest test item passes c n sound whole =
     least_passes : least < n → (least ≡ n) ⊎ ((i : ℕ) × (i < c) × (test i ≡ true) × (least ≡ item i)) → passes least ≡ true
     least_passes h (inl e) = absurd (omega arith)
     least_passes h (inr i) = rw i.3 (sound i.0 i.1 i.2).1
+
+-- a number below the count is found
+pub found_below : (count k : ℕ) → k < count → found count k ≡ Some k
+found_below count k h = rw (lt-ltb k count h, found) refl
+
+-- a number that is not below the count is not found
+pub found_past : (count k : ℕ) → count ≤ k → found count k ≡ None
+found_past count k h = rw (le-ltb k count h, found) refl
+
+-- what is found is the number, and it is below the count
+pub found_some : (count k i : ℕ) → found count k ≡ Some i → (k ≡ i) × (k < count)
+found_some count k i e = go (ltb k count) refl e
+  where
+    go : (b : Bool) → ltb k count ≡ b → ◌≡◌ {A = Option ℕ} (elim b [ true ↦ Some k | false ↦ None ]) (Some i) → (k ≡ i) × (k < count)
+    go true t p = (cc, ltb-true k count t)
+    go false t p = absurd (false≢true cc)
+
+-- where nothing is found the number is not below the count
+pub found_none : (count k : ℕ) → found count k ≡ None → count ≤ k
+found_none count k e = go (ltb k count) refl e
+  where
+    go : (b : Bool) → ltb k count ≡ b → ◌≡◌ {A = Option ℕ} (elim b [ true ↦ Some k | false ↦ None ]) None → count ≤ k
+    go true t p = absurd (false≢true cc)
+    go false t p = ltb-false k count t
+
+-- a first number is the lowest, and below the count
+pub first_some : (test : ℕ → Bool) (count i : ℕ) → first test count ≡ Some i → (lowest test count ≡ i) × (i < count)
+first_some test count i e = let f = found_some count (lowest test count) i e in (f.0, rw f.0 at f.1)
+
+-- where there is no first number the lowest is the count
+pub first_none : (test : ℕ → Bool) (count : ℕ) → first test count ≡ None → lowest test count ≡ count
+first_none test count e = omega (arith, lowest_le test count, found_none count (lowest test count) e)
+
+-- what passes at i, and nowhere before, is first
+pub first_at : (test : ℕ → Bool) (count i : ℕ) → i < count → test i ≡ true → ((k : ℕ) → k < i → test k ≡ false) → Some i ≡ first test count
+first_at test count i h e f =
+    let same : lowest test count ≡ i = is_lowest_lem (record { within = omega arith; before = f; passes = λ l. e }) in
+    rw same (sym (found_below count i h))
+
+-- where nothing passes there is no first number
+pub first_nowhere : (test : ℕ → Bool) (count : ℕ) → ((k : ℕ) → k < count → test k ≡ false) → None ≡ first test count
+first_nowhere test count f = rw (lowest_none test count f) (sym (found_past count count (le_refl count)))
+
+-- what `find` gives over the numbers below a count is the first
+pub first_found : (test : ℕ → Bool) (count : ℕ) (r : Option ℕ)
+    → MatchOption r ((k : ℕ) → 0 ≤ k → k < count → test k ≡ false) (λ i. (0 ≤ i) × (i < count) × (test i ≡ true) × ((k : ℕ) → 0 ≤ k → k < i → test k ≡ false))
+    → r ≡ first test count
+first_found test count None h = first_nowhere test count (λ k l. h k zero-le l)
+first_found test count (Some i) h = first_at test count i h.1 h.2 (λ k l. h.3 k zero-le l)

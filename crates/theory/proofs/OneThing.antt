@@ -5,6 +5,7 @@ use mathlib.Core.Logic.{◌⊎◌, inl, inr, ⊎_elim}
 use Prim.Native.Nat.{ℕ, ◌*◌, ◌<◌}
 use native.Mathlib.Nat.{eq-or-lt_of_le, mul-one}
 use lib.IntN.{ℤ}
+use Rattle.std.specs.Prelude.{Ok}
 use Rattle.subdivision.specs.declared.Answer.{Answer}
 use Rattle.subdivision.specs.declared.Answer.TheVariants.{Vertex, Edge, Zone}
 use Rattle.subdivision.specs.Sheet.{Sheet, shifted, vertex_count, edge_count, zone_count, x_of, y_of, west_of, east_of, segment}
@@ -93,17 +94,17 @@ module _ (s : Sheet) (a : Accepted s) where
   read_below x y z (inr m) = rw m.1 (first_is_zone s a)
 
   -- the plain reading is the one thing that the point is in
-  pub one_thing : (x y : ℕ) → OnSheet s x y → InOneThing s x y (plain_reading s x y)
+  pub one_thing : (x y : ℕ) → OnSheet s x y → InOneThing s x y (Ok (plain_reading s x y))
   one_thing x y o =
-      by_plain s x y (InOneThing s x y) (λ v b i. ((b, i), (λ u c j. vertex_one x y u v c b j i, λ e c o. vertex_ends x y v e b i c o))) on_edge (λ n m. (n, (m, zone)))
+      by_plain s x y (λ r. InOneThing s x y (Ok r)) (λ v b i. ((b, i), (λ u c j. vertex_one x y u v c b j i, λ e c o. vertex_ends x y v e b i c o))) on_edge (λ n m. (n, (m, zone)))
     where
-      on_edge : OffVertices s x y → (e : ℕ) → e < edge_count s → IsOn s x y e → InOneThing s x y (Edge e)
+      on_edge : OffVertices s x y → (e : ℕ) → e < edge_count s → IsOn s x y e → InOneThing s x y (Ok (Edge e))
       on_edge n e b i = (n, ((b, i), λ f c j. edge_one x y f e n c b j i))
 
       zone : zone_beneath s x y < zone_count s
       zone = read_below x y (zone_beneath s x y) ((zone_beneath_read s a x y o (zone_beneath s x y)).1 refl)
 
   -- the call of the plain reading gives it for every point that is on the sheet
-  pub accepted_reads : (x y : ℤ) → OnSheet s (shifted x) (shifted y) → reading s x y ≡ plain_reading s (shifted x) (shifted y)
+  pub accepted_reads : (x y : ℤ) → OnSheet s (shifted x) (shifted y) → reading s x y ≡ Ok (plain_reading s (shifted x) (shifted y))
   unfolding reading
   accepted_reads x y o = rw ((accepted_decides s).1 a, held (on_sheet s (shifted x) (shifted y)) o, reading_under)

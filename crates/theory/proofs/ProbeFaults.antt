@@ -8,10 +8,11 @@ use native.Mathlib.Decide.{dec_lt}
 use native.Mathlib.Omega.{arith}
 use lib.Dec.{ltb}
 use borrow.Author.Tests.{ltb-true, ltb-false, lt-ltb, le-ltb}
+use Rattle.subdivision.specs.Results.{covered}
 use Rattle.subdivision.specs.declared.Look.{Look}
 use Rattle.subdivision.specs.declared.Look.TheVariants.{Faulty, West, Covering, Beyond}
 use Rattle.subdivision.specs.declared.Probed.{Probed}
-use Rattle.subdivision.specs.declared.Probed.TheVariants.{Covered, Missing}
+use Rattle.std.specs.Prelude.{Option, Some, None}
 use Rattle.subdivision.specs.Formula.{holds, Means}
 use Rattle.subdivision.specs.Sheet.{Sheet, east_margin, x_of, west_of, segment}
 use Rattle.subdivision.specs.Lines.{covers}
@@ -76,9 +77,9 @@ module _ (s : Sheet) (index : List ℕ) (x y : ℕ) where
       × (((lo < hi) × (Means (entry_sound s (middle s index x y lo hi)) → ⊥)) ⊎ (hi ≤ lo))
 
   -- what the probes of chain k come to, by what they give
-  abbrev pub Gives : ℕ → Probed → Type 0
-  Gives k (Covered e q) = Finds s index x y k e
-  Gives k Missing = Misses k
+  abbrev pub Gives : ℕ → Option Probed → Type 0
+  Gives k (Some p) = Finds s index x y k p.edge
+  Gives k None = Misses k
 
   probe_gives : (k fuel lo hi p : ℕ) → Left s index x y k lo hi → hi ≤ fuel + lo → Gives k (probe s w x fuel lo hi p)
   probe_gives k zero lo hi p left room = (lo, hi, left, inr (omega arith))
@@ -119,16 +120,16 @@ module _ (s : Sheet) (index : List ℕ) (x y : ℕ) where
       let n = narrows k p low high Beyond some (sound, (begun, uncovered)) (left_probed k p low high left) in (n.0, suc n.1, omega (arith, n.2), n.3)
 
   -- where an entry is at fault or the probes run out, they miss
-  pub chain_misses : (k p : ℕ) → Misses k → probe_chain s w x k p ≡ Missing
+  pub chain_misses : (k p : ℕ) → Misses k → probe_chain s w x k p ≡ None
   chain_misses k p (lo, hi, left, inl (some, fault)) = (narrows k p lo hi Faulty some fault (left_probed k p lo hi left)).3
   chain_misses k p (lo, hi, left, inr none) =
       let n = left_probed k p lo hi left in n.3 ∙ probe_none s w x n.0 lo hi n.1 none
 
   -- the edge found is the edge that the probes give
-  pub chain_finds : (k p e : ℕ) → Finds s index x y k e → (q : ℕ) × (probe_chain s w x k p ≡ Covered e q)
+  pub chain_finds : (k p e : ℕ) → Finds s index x y k e → (q : ℕ) × (probe_chain s w x k p ≡ covered e q)
   chain_finds k p e (lo, hi, left, (some, (same, (sound, cover)))) =
       go (narrows k p lo hi Covering some (rw same at sound, rw same at cover) (left_probed k p lo hi left))
     where
-      go : (fuel : ℕ) × (q : ℕ) × (hi ≤ suc fuel + lo) × (probe_chain s w x k p ≡ Covered (middle s index x y lo hi) (suc q))
-          → (q : ℕ) × (probe_chain s w x k p ≡ Covered e q)
-      go (fuel, q, room, given) = (suc q, given ∙ ap (λ f. Covered f (suc q)) (sym same))
+      go : (fuel : ℕ) × (q : ℕ) × (hi ≤ suc fuel + lo) × (probe_chain s w x k p ≡ covered (middle s index x y lo hi) (suc q))
+          → (q : ℕ) × (probe_chain s w x k p ≡ covered e q)
+      go (fuel, q, room, given) = (suc q, given ∙ ap (λ f. covered f (suc q)) (sym same))

@@ -11,8 +11,9 @@ use lib.Dec.{leb, ltb}
 use lib.ListN.{length, get_or, length-append, get_or-append}
 use lib.Seq.{get_or-append_seam}
 use borrow.Author.Tests.{ltb-false, leb-false}
+use Rattle.subdivision.specs.Results.{covered}
 use Rattle.subdivision.specs.declared.Answer.TheVariants.{Zone}
-use Rattle.subdivision.specs.declared.Probed.TheVariants.{Covered}
+use Rattle.std.specs.Prelude.{Option, Some, None}
 use Rattle.subdivision.specs.declared.Side.{Side}
 use Rattle.subdivision.specs.declared.Side.TheVariants.{Below, On, Above}
 use Rattle.subdivision.specs.Formula.{is_less, is_at_most}
@@ -118,7 +119,7 @@ module _ (s : Sheet) (a : Accepted s) (x y : ℕ) (o : OnSheet s x y) where
         (omega (arith, blocks.0.0, between.0), omega arith) (omega arith, omega (arith, blocks.1.1, between.1))
 
     -- the probes of the chain on the tables
-    probed : (q : ℕ) × (probe_chain s (table_look_ups s) x d.k d.probes ≡ Covered e q)
+    probed : (q : ℕ) × (probe_chain s (table_look_ups s) x d.k d.probes ≡ covered e q)
     probed = chain_probed s a x d.k e d.probes b in_chain c
 
     -- the state past the edge

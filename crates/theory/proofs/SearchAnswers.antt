@@ -7,6 +7,8 @@ use Prim.Native.Nat.{ℕ, ◌*◌, ◌-◌, ◌<◌, ◌≤◌}
 use native.Mathlib.Omega.{arith}
 use lib.IntN.{ℤ}
 use lib.ListN.{length}
+use Rattle.std.specs.Prelude.{Ok, Err}
+use Rattle.subdivision.specs.Results.{Verdict, Reply, Search, passed, refused, reply_of, examined_of, probes_of}
 use Rattle.subdivision.specs.declared.Answer.{Answer}
 use Rattle.subdivision.specs.declared.Answer.TheVariants.{Vertex, Edge}
 use Rattle.subdivision.specs.Formula.{Formula, Means, holds}
@@ -17,7 +19,7 @@ use Rattle.subdivision.specs.Faults.{FaultOf, AllKept}
 use Rattle.subdivision.specs.Damage.{SearchRefuses}
 use Rattle.subdivision.specs.Reading.{on_sheet, is_vertex}
 use Rattle.subdivision.specs.Descent.{Descent, answered, on_edge, turn, start, descent, index_look_ups, index_descent}
-use Rattle.subdivision.specs.Calls.{search_refused, searching}
+use Rattle.subdivision.specs.Calls.{Searched, search_refused, searching}
 use Rattle.theory.proofs.SearchRefusals.{ByLine, ByAnswer, ByDamage, search_comes, search_refused_exactly}
 use Rattle.theory.proofs.Turns.{Answers, arrival, landing, turn_answered, turns_answered}
 
@@ -53,17 +55,18 @@ descent_zone s index x y last a h z p =
     turn_zone s index x y r.0 last a r.2 z p
 
 -- a zone that the search answers is one of the sheet's
-pub searched_zone : (s : Sheet) (index : List ℕ) (x y : ℤ) (lent : List ℕ) (z : ℕ) → (searching s index x y lent).found.answer ≡ Answer.Zone z → z < zone_count s
+pub searched_zone : (s : Sheet) (index : List ℕ) (x y : ℤ) (lent : List ℕ) (z : ℕ) → reply_of (searching s index x y lent).found ≡ Ok (Answer.Zone z) → z < zone_count s
 searched_zone s index x y lent z p = go (search_comes s index x y lent)
   where
     unrefused : (n i : ℕ) → searching s index x y lent ≡ search_refused n i lent → ⊥
     unrefused n i r =
-        let same : Answer.Refused n i ≡ Answer.Zone z = sym (ap (λ q. q.found.answer) r) ∙ p in
+        let same : refused n i ≡ Ok (Answer.Zone z) = sym (ap (λ (q : Searched). reply_of q.found) r) ∙ p in
         false≢true cc
 
     go : ByLine s index x y lent ⊎ (ByAnswer s index x y lent ⊎ ByDamage s index x y lent) → z < zone_count s
     go (inl (n, i, (e, r))) = absurd (unrefused n i r)
-    go (inr (inl (k, (a, d, (t, r))))) = descent_zone s index (shifted x) (shifted y) d a t z (sym (ap (λ q. q.found.answer) r) ∙ p)
+    go (inr (inl (k, (a, d, (t, r))))) = let same : Ok a ≡ Ok (Answer.Zone z) = sym (ap (λ (q : Searched). reply_of q.found) r) ∙ p in
+        let zone : a ≡ Answer.Zone z = cc in descent_zone s index (shifted x) (shifted y) d a t z zone
     go (inr (inr (k, (t, r)))) = absurd (unrefused 22 0 r)
 
 -- ---- the refusals that are left
@@ -76,7 +79,7 @@ unnamed_gives given kept number item (n, (b, inr f)) = absurd (omega (arith, f.w
 -- where the limits are kept and the index and the trail have room, the search refuses with 20 or 22 alone, and names nothing
 pub searched_refusals : (s : Sheet) (index : List ℕ) (x y : ℤ) (lent : List ℕ) → AllKept (limit_refusals s)
     → Means (room_refusal s (length index)).kept → bits (zone_count s - 1) ≤ length lent
-    → (number item : ℕ) → (searching s index x y lent).found.answer ≡ Answer.Refused number item → ((number ≡ 20) ⊎ (number ≡ 22)) × (item ≡ 0)
+    → (number item : ℕ) → reply_of (searching s index x y lent).found ≡ refused number item → ((number ≡ 20) ⊎ (number ≡ 22)) × (item ≡ 0)
 searched_refusals s index x y lent limits words places number item p = go ((search_refused_exactly s index x y lent number item).0 p)
   where
     go : SearchRefuses s index (shifted x) (shifted y) (length lent) number item → ((number ≡ 20) ⊎ (number ≡ 22)) × (item ≡ 0)

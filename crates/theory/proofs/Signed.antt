@@ -7,8 +7,8 @@ use Prim.Native.Nat.{ℕ}
 use native.Mathlib.Omega.{arith}
 use lib.IntN.{ℤ}
 use lib.ListN.{length}
-use Rattle.subdivision.specs.declared.Verdict.{Verdict}
-use Rattle.subdivision.specs.declared.Verdict.TheVariants.{Passed, Refused}
+use Rattle.std.specs.Prelude.{Ok, Err}
+use Rattle.subdivision.specs.Results.{Verdict, Reply, Search, passed, refused, reply_of, examined_of, probes_of}
 use Rattle.subdivision.specs.Limits.{Limits, limits, earlier_limits}
 use Rattle.subdivision.specs.Formula.{holds}
 use Rattle.subdivision.specs.Lists.{put}
@@ -41,7 +41,7 @@ wider s a =
     }
 
 -- a sheet that opening passed before P5 was within the limits as they were
-pub signed_within : (s : Sheet) (index : List ℕ) → (opening_under earlier_limits s index).verdict ≡ Passed → Within earlier_limits s
+pub signed_within : (s : Sheet) (index : List ℕ) → (opening_under earlier_limits s index).verdict ≡ passed → Within earlier_limits s
 signed_within s index e =
     let k = passed_keeps lines (go (judged lines) refl e) in
     record { vertices = k.0.1.0.0; edges = k.0.1.0.1; zones = k.0.1.1.1; west = k.1.0.0.0; east = k.1.0.0.1; inside = λ v h. (k.1.1.1.0 v h).0 }
@@ -52,11 +52,11 @@ signed_within s index e =
     -- what opening leaves, from what its lines say
     given : Verdict → Opened
     given v =
-        elim v [ Passed ↦ record { verdict = Passed; index = put (index_words s) index } | Refused number item ↦ record { verdict = Refused number item; index = index } ]
+        elim v [ Ok u ↦ record { verdict = passed; index = put (index_words s) index } | Err e ↦ record { verdict = Err e; index = index } ]
 
-    go : (v : Verdict) → judged lines ≡ v → (given v).verdict ≡ Passed → judged lines ≡ Passed
-    go Passed p q = p
-    go (Refused number item) p q = absurd (false≢true cc)
+    go : (v : Verdict) → judged lines ≡ v → (given v).verdict ≡ passed → judged lines ≡ passed
+    go (Ok u) p q = p
+    go (Err e) p q = absurd (false≢true cc)
 
 module _ (s : Sheet) where
   pub opened_as_signed : (index : List ℕ) → OpenedAsSigned s index (opening s index).verdict (opening s index).index
@@ -76,9 +76,9 @@ module _ (s : Sheet) where
           off = fails (on_sheet_under s earlier_limits (shifted x) (shifted y)) (λ o. f o.1)
 
           go : (v : Verdict) → judged (table_refusals_under earlier_limits s) ≡ v → (reading_under limits s x y ≡ reading_under earlier_limits s x y) ⊎ WasBeyond y (reading_under earlier_limits s x y)
-          go Passed e = inr (f, rw (e, off, reading_under))
-          go (Refused number item) e =
-              let now : judged (table_refusals_under limits s) ≡ Refused number item = tables_same s limits earlier_limits (wider s a) a ∙ e in
+          go (Ok u) e = inr (f, rw (e, off, reading_under))
+          go (Err r) e =
+              let now : judged (table_refusals_under limits s) ≡ Err r = tables_same s limits earlier_limits (wider s a) a ∙ e in
               inl (rw (now, reading_under) (sym (rw (e, reading_under))))
 
   pub searched_as_signed : (index : List ℕ) (x y : ℤ) (trail : List ℕ)
@@ -91,7 +91,7 @@ module _ (s : Sheet) where
       before = searching_under earlier_limits s index x y trail
 
       Kept : Type 0
-      Kept = (((searching_under limits s index x y trail).found ≡ before.found) × ((searching_under limits s index x y trail).trail ≡ before.trail)) ⊎ WasBeyond y before.found.answer
+      Kept = (((searching_under limits s index x y trail).found ≡ before.found) × ((searching_under limits s index x y trail).trail ≡ before.trail)) ⊎ WasBeyond y (reply_of before.found)
 
       alike : searching_under limits s index x y trail ≡ before
           → ((searching_under limits s index x y trail).found ≡ before.found) × ((searching_under limits s index x y trail).trail ≡ before.trail)
@@ -112,12 +112,12 @@ module _ (s : Sheet) where
       beyond : (InRangeUnder earlier_limits (shifted y) → ⊥) → Kept
       beyond f = go (judged (first earlier_limits)) refl
         where
-          off : judged (last earlier_limits) ≡ Refused 20 0
+          off : judged (last earlier_limits) ≡ refused 20 0
           off = judged_unnamed_broken 20 (on_sheet_under s earlier_limits (shifted x) (shifted y)) (unnamed 21 (trail_room s (length trail)) ∷ []) (fails (on_sheet_under s earlier_limits (shifted x) (shifted y)) (λ o. f o.1))
 
           go : (v : Verdict) → judged (first earlier_limits) ≡ v → Kept
-          go Passed e = inr (f, rw (passed_first (first earlier_limits) (last earlier_limits) e ∙ off, searching_under))
-          go (Refused number item) e =
-              let was = refused_first (first earlier_limits) (last earlier_limits) number item e in
-              let now = refused_first (first limits) (last limits) number item (first_same ∙ e) in
+          go (Ok u) e = inr (f, rw (passed_first (first earlier_limits) (last earlier_limits) e ∙ off, searching_under))
+          go (Err r) e =
+              let was = refused_first (first earlier_limits) (last earlier_limits) r.number r.item e in
+              let now = refused_first (first limits) (last limits) r.number r.item (first_same ∙ e) in
               inl (alike (rw (now, searching_under) (sym (rw (was, searching_under)))))

@@ -5,6 +5,8 @@ use mathlib.Core.Logic.{◌⊎◌, inl, inr, ⊎_elim}
 use Prim.Native.Nat.{ℕ, ◌-◌, ◌≤◌, zero-le}
 use lib.IntN.{ℤ}
 use lib.ListN.{length}
+use Rattle.std.specs.Prelude.{Ok, Err}
+use Rattle.subdivision.specs.Results.{Verdict, Reply, Search, passed, refused, reply_of, examined_of, probes_of}
 use Rattle.subdivision.specs.declared.Answer.{Answer}
 use Rattle.subdivision.specs.Dyadic.{bits}
 use Rattle.subdivision.specs.Sheet.{Sheet, shifted, zone_count}
@@ -15,6 +17,7 @@ use Rattle.subdivision.specs.Placed.{OnSheet}
 use Rattle.subdivision.specs.Descent.{Descent, answered, descent, published_descent, index_descent, table_look_ups, index_look_ups}
 use Rattle.subdivision.specs.Engine.{HoldsIndex, CountsBounded, QuickAnswers, ThirdDemand}
 use Rattle.subdivision.specs.Calls.{Searched, search_refused, search_answered, reading_under, reading, searching_under, searching}
+use Rattle.std.proofs.lemmas.Bool.{false≢true}
 use Rattle.theory.proofs.Decide.{decided, fails}
 use Rattle.theory.proofs.Descents.{descent_counts}
 use Rattle.theory.proofs.FaithfulLookUps.{tables_faithful, index_faithful}
@@ -23,7 +26,7 @@ use Rattle.theory.proofs.HeldIndex.{held_long}
 use Rattle.theory.proofs.Judgement.{accepted_decides, kept_passes, passed_keeps}
 use Rattle.theory.proofs.OneThing.{accepted_reads}
 use Rattle.theory.proofs.SameDescent.{SameEnd, descent_same}
-use Rattle.theory.proofs.SearchRefusals.{ByLine, ByAnswer, ByDamage, search_comes, descent_unrefused}
+use Rattle.theory.proofs.SearchRefusals.{ByLine, ByAnswer, ByDamage, search_comes}
 
 module _ (s : Sheet) (index : List ℕ) (x y : ℤ) (lent : List ℕ) where
   -- a search examines at most bits(n-1) edges, with at most bits(n-1) x bits(m) probes, whatever is lent
@@ -69,7 +72,7 @@ module _ (s : Sheet) (index : List ℕ) (x y : ℤ) (lent : List ℕ) where
           engine =
               record {
                 plain = refl;
-                unrefused = descent_unrefused s index (shifted x) (shifted y) last plain over_index;
+                unrefused = λ number item e. false≢true cc;
                 last = last;
                 published = published;
                 counted = refl;
@@ -89,11 +92,11 @@ module _ (s : Sheet) (index : List ℕ) (x y : ℤ) (lent : List ℕ) where
       subst (λ r. QuickAnswers s (shifted x) (shifted y) lent r.found r.trail) (sym (searched a h o room)) (answers a h o room)
 
   -- under the demand's premises the quick search answers as the call of the plain reading does
-  pub searched_is_read : Accepted s → HoldsIndex s index → OnSheet s (shifted x) (shifted y) → bits (zone_count s - 1) ≤ length lent → (searching s index x y lent).found.answer ≡ reading s x y
+  pub searched_is_read : Accepted s → HoldsIndex s index → OnSheet s (shifted x) (shifted y) → bits (zone_count s - 1) ≤ length lent → reply_of (searching s index x y lent).found ≡ reading s x y
   searched_is_read a h o room = (third_demand a h o room).engine.plain ∙ sym (accepted_reads s a x y o)
 
   -- off the sheet the search is refused 20
-  search_off : Accepted s → HoldsIndex s index → (OnSheet s (shifted x) (shifted y) → ⊥) → (searching s index x y lent).found.answer ≡ Answer.Refused 20 0
+  search_off : Accepted s → HoldsIndex s index → (OnSheet s (shifted x) (shifted y) → ⊥) → reply_of (searching s index x y lent).found ≡ refused 20 0
   unfolding searching
   search_off a h off =
       let kept = passed_keeps (table_refusals s) ((accepted_decides s).1 a) in
@@ -101,10 +104,10 @@ module _ (s : Sheet) (index : List ℕ) (x y : ℤ) (lent : List ℕ) where
       rw (refused, searching_under)
 
   -- and so is the plain reading
-  read_off : Accepted s → (OnSheet s (shifted x) (shifted y) → ⊥) → reading s x y ≡ Answer.Refused 20 0
+  read_off : Accepted s → (OnSheet s (shifted x) (shifted y) → ⊥) → reading s x y ≡ refused 20 0
   unfolding reading
   read_off a off = rw ((accepted_decides s).1 a, reading_under) (rw (fails (on_sheet s (shifted x) (shifted y)) off))
 
   -- an opened sheet searched at any point, with room for a trail, gives the plain reading's answer
-  pub searched_is_read_everywhere : Accepted s → HoldsIndex s index → bits (zone_count s - 1) ≤ length lent → (searching s index x y lent).found.answer ≡ reading s x y
+  pub searched_is_read_everywhere : Accepted s → HoldsIndex s index → bits (zone_count s - 1) ≤ length lent → reply_of (searching s index x y lent).found ≡ reading s x y
   searched_is_read_everywhere a held_index room = ⊎_elim (λ on. searched_is_read a held_index on room) (λ off. search_off a held_index off ∙ sym (read_off a off)) (decided (on_sheet s (shifted x) (shifted y)))

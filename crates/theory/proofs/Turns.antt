@@ -4,10 +4,11 @@ use mathlib.Core.Bool.{Bool, true, false, not, false≢true}
 use Prim.Native.Nat.{ℕ, zero, suc, ◌<◌, ◌≤◌}
 use lib.Dec.{leb, ltb}
 use borrow.Author.Tests.{ltb-true, ltb-false, leb-true, leb-false}
+use Rattle.subdivision.specs.Results.{covered}
 use Rattle.subdivision.specs.declared.Answer.{Answer}
 use Rattle.subdivision.specs.declared.Answer.TheVariants.{Zone}
 use Rattle.subdivision.specs.declared.Probed.{Probed}
-use Rattle.subdivision.specs.declared.Probed.TheVariants.{Covered, Missing}
+use Rattle.std.specs.Prelude.{Option, Some, None}
 use Rattle.subdivision.specs.declared.Side.{Side}
 use Rattle.subdivision.specs.declared.Side.TheVariants.{Below, On, Above}
 use Rattle.subdivision.specs.Formula.{Formula, is_less, is_at_most, holds, Means}
@@ -41,7 +42,7 @@ module _ (s : Sheet) (w : LookUps) (x y : ℕ) where
     pub lower : d.i < d.k
     pub upper : d.k ≤ d.j
     pub starts : Judged w (starts_sound s w d.k)
-    pub probed : probe_chain s w x d.k d.probes ≡ Covered e q
+    pub probed : probe_chain s w x d.k d.probes ≡ covered e q
     pub places : Judged w (places_sound s w d.k e)
 
   -- what a turn found that goes onward
@@ -87,16 +88,16 @@ module _ (s : Sheet) (w : LookUps) (x y : ℕ) where
       let p = undamaged w (starts_sound s w d.k) (at (probe_chain s w x d.k d.probes)) r n h in
       go (probe_chain s w x d.k d.probes) refl p.0 p.1
     where
-      at : Probed → Turn
-      at p = elim p [ Covered e q ↦ examined s w x y d e q | Missing ↦ damaged ]
+      at : Option Probed → Turn
+      at p = elim p [ Some c ↦ examined s w x y d c.edge c.probes | None ↦ damaged ]
 
-      go : (p : Probed) → probe_chain s w x d.k d.probes ≡ p
+      go : (p : Option Probed) → probe_chain s w x d.k d.probes ≡ p
           → Judged w (starts_sound s w d.k) → at p ≡ r
           → (e : ℕ) × (q : ℕ) × Examines d e q × (sided d e q (side_at (segment s e) x y) ≡ r)
-      go (Covered e q) c k m =
-          let p = undamaged w (places_sound s w d.k e) (sided d e q (side_at (segment s e) x y)) r n m in
-          (e, q, record { lower = l; upper = u; starts = k; probed = c; places = p.0 }, p.1)
-      go Missing c k m = absurd (n m)
+      go (Some f) c k m =
+          let p = undamaged w (places_sound s w d.k f.edge) (sided d f.edge f.probes (side_at (segment s f.edge) x y)) r n m in
+          (f.edge, f.probes, record { lower = l; upper = u; starts = k; probed = c; places = p.0 }, p.1)
+      go None c k m = absurd (n m)
 
   -- what a turn found, by what it leads to
   abbrev LedTo : Descent → Turn → Type 0

@@ -8,11 +8,11 @@ use native.Mathlib.Omega.{arith}
 use lib.IntN.{ℤ}
 use lib.ListN.{length, drop}
 use lib.Dec.{ltb, leb}
+use Rattle.subdivision.specs.Results.{Verdict, Reply, Search, passed, refused, reply_of, examined_of, probes_of, covered}
 use Rattle.subdivision.specs.declared.Answer.{Answer}
-use Rattle.subdivision.specs.declared.Verdict.{Verdict}
-use Rattle.subdivision.specs.declared.Verdict.TheVariants.{Passed, Refused}
+use Rattle.std.specs.Prelude.{Ok, Err, Option, Some, None}
 use Rattle.subdivision.specs.declared.Look.TheVariants.{Faulty, West, Covering, Beyond}
-use Rattle.subdivision.specs.declared.Probed.TheVariants.{Covered, Missing}
+use Rattle.std.specs.Prelude.{Option, Some, None}
 use Rattle.subdivision.specs.Limits.{Limits}
 use Rattle.subdivision.specs.Formula.{Formula, is_less, is_at_most, is_equal, both, every_under, holds}
 use Rattle.subdivision.specs.Lists.{put}
@@ -56,7 +56,7 @@ every_same (suc n) test other f =
 judged_same : (r q : Refusal) (rs qs : List Refusal) → r.number ≡ q.number → holds r.kept ≡ holds q.kept → names r ≡ names q
     → judged rs ≡ judged qs → judged (r ∷ rs) ≡ judged (q ∷ qs)
 judged_same r q rs qs number kept item rest =
-    (λ i. elim (kept i) [ true ↦ rest i | false ↦ Verdict.Refused (number i) (item i) ])
+    (λ i. elim (kept i) [ true ↦ rest i | false ↦ refused (number i) (item i) ])
 
 -- a line that names nothing in the place of another that is kept when it is
 unnamed_same : (number : ℕ) (p q : Formula) (rs qs : List Refusal) → holds p ≡ holds q → judged rs ≡ judged qs
@@ -142,7 +142,7 @@ module _ (s : Sheet) (l m : Limits) (a : Within l s) (b : Within m s) where
   -- a sheet is opened alike under both limits
   pub opened_same : (index : List ℕ) → opening_under l s index ≡ opening_under m s index
   opened_same index i =
-      elim (opening_same (length index) i) [ Passed ↦ record { verdict = Passed; index = put (index_words s) index } | Refused number item ↦ record { verdict = Refused number item; index = index } ]
+      elim (opening_same (length index) i) [ Ok u ↦ record { verdict = passed; index = put (index_words s) index } | Err e ↦ record { verdict = Err e; index = index } ]
 
   -- a point is on the sheet under both, where its y is in range under both
   on_same : (x y : ℕ) → InRangeUnder l y → InRangeUnder m y → holds (on_sheet_under s l x y) ≡ holds (on_sheet_under s m x y)
@@ -153,9 +153,9 @@ module _ (s : Sheet) (l m : Limits) (a : Within l s) (b : Within m s) where
   pub read_same : (x y : ℤ) → InRangeUnder l (shifted y) → InRangeUnder m (shifted y) → reading_under l s x y ≡ reading_under m s x y
   read_same x y h k i =
       elim (tables_same i) [
-        | Refused number item ↦ Answer.Refused number item
-        | Passed ↦
-            elim (on_same (shifted x) (shifted y) h k i) [ false ↦ Answer.Refused 20 0 | true ↦ plain_reading s (shifted x) (shifted y) ]
+        | Err e ↦ Err e
+        | Ok u ↦
+            elim (on_same (shifted x) (shifted y) h k i) [ false ↦ refused 20 0 | true ↦ Ok (plain_reading s (shifted x) (shifted y)) ]
       ]
 
   -- a probed entry is judged alike
@@ -204,7 +204,7 @@ module _ (s : Sheet) (l m : Limits) (a : Within l s) (b : Within m s) where
         elim (breaks w (starts_sound s w d.k)) [
           | true ↦ damaged
           | false ↦
-              elim (probed_same d.k d.probes i) [ Covered e probes ↦ examined s w x y d e probes | Missing ↦ damaged ]
+              elim (probed_same d.k d.probes i) [ Some c ↦ examined s w x y d c.edge c.probes | None ↦ damaged ]
         ]
 
     turn_same : (d : Descent) → turn s w x y d ≡ turn s v x y d
@@ -249,6 +249,6 @@ module _ (s : Sheet) (l m : Limits) (a : Within l s) (b : Within m s) where
       → searching_under l s index x y trail ≡ searching_under m s index x y trail
   searched_same index x y trail h k i =
       elim (search_lines_same (length index) (shifted x) (shifted y) (length trail) h k i) [
-        | Refused number item ↦ search_refused number item trail
-        | Passed ↦ search_ended (descent_same index (shifted x) (shifted y) i) trail
+        | Err e ↦ search_refused e.number e.item trail
+        | Ok u ↦ search_ended (descent_same index (shifted x) (shifted y) i) trail
       ]

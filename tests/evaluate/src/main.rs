@@ -21,9 +21,9 @@ const VERTICES: usize = 64;
 const READINGS: usize = 4;
 
 const USES: &str = "\
-use Rattle.std.specs.Prelude.{◌≡◌, refl, List, [], ◌∷◌, pos, negsuc, replicate}
+use Rattle.std.specs.Prelude.{◌≡◌, refl, List, [], ◌∷◌, pos, negsuc, replicate, Ok}
 use Rattle.subdivision.specs.declared.Answer.{Answer}
-use Rattle.subdivision.specs.declared.Verdict.{Verdict}
+use Rattle.subdivision.specs.Results.{passed, refused}
 use Rattle.subdivision.specs.Limits.{earlier_limits}
 use Rattle.subdivision.specs.Lowest.{lowest}
 use Rattle.subdivision.specs.Lists.{tab}
@@ -53,33 +53,41 @@ fn words(w: &[u32]) -> String {
     list(w.iter().map(u32::to_string))
 }
 
-fn answer([kind, number, item]: [u32; 3]) -> String {
-    match kind {
-        0 => format!("Answer.Refused {number} {item}"),
-        kind => format!("Answer.{} {number}", ["Vertex", "Edge", "Zone"][kind as usize - 1]),
-    }
+/// An answer of this kind, which is no refusal's.
+fn answer(kind: u32, number: u32) -> String {
+    format!("Answer.{} {number}", ["Vertex", "Edge", "Zone"][kind as usize - 1])
 }
 
 /// The equation of an opening by this definition.
 fn opened(opening: &str, lent: usize, ([number, item], left): &Opened) -> String {
     let result = match number {
-        0 => format!("verdict = Verdict.Passed; index = {}", words(left)),
-        _ => format!("verdict = Verdict.Refused {number} {item}; index = replicate {lent} {LENT}"),
+        0 => format!("verdict = passed; index = {}", words(left)),
+        _ => format!("verdict = refused {number} {item}; index = replicate {lent} {LENT}"),
     };
     format!("{opening} sheet (replicate {lent} {LENT}) ≡ record {{ {result} }}")
 }
 
 /// The equation of a reading by this definition.
-fn read(reading: &str, (x, y): (i32, i32), said: [u32; 3]) -> String {
-    format!("{reading} sheet ({}) ({}) ≡ {}", integer(x), integer(y), answer(said))
+fn read(reading: &str, (x, y): (i32, i32), [kind, number, item]: [u32; 3]) -> String {
+    let reply = match kind {
+        0 => format!("refused {number} {item}"),
+        _ => format!("Ok ({})", answer(kind, number)),
+    };
+    format!("{reading} sheet ({}) ({}) ≡ {reply}", integer(x), integer(y))
 }
 
 /// The equation of a search by this definition.
 fn searched(searching: &str, index: &[u32], (x, y): (i32, i32), (out, left): &Searched) -> String {
     let &[kind, number, item, examined, probes] = out;
-    let found = format!("answer = {}; examined = {examined}; probes = {probes}", answer([kind, number, item]));
+    let found = match kind {
+        0 => {
+            assert_eq!([examined, probes], [0, 0], "a refused search counts nothing");
+            format!("refused {number} {item}")
+        }
+        _ => format!("Ok (record {{ answer = {}; examined = {examined}; probes = {probes} }})", answer(kind, number)),
+    };
     format!(
-        "{searching} sheet ({}) ({}) ({}) (replicate {} {LENT}) ≡ record {{ found = record {{ {found} }}; trail = {} }}",
+        "{searching} sheet ({}) ({}) ({}) (replicate {} {LENT}) ≡ record {{ found = {found}; trail = {} }}",
         words(index), integer(x), integer(y), left.len(), words(left)
     )
 }

@@ -3,11 +3,12 @@ use mathlib.Core.Path.{◌≡◌, sym, subst}
 use mathlib.Core.List.{List}
 use Prim.Native.Nat.{ℕ, ◌+◌, ◌<◌, ◌≤◌}
 use native.Mathlib.Omega.{arith}
+use Rattle.std.proofs.Common.{Ok}
 use lib.ListN.{length}
 use Rattle.subdivision.specs.declared.Answer.{Answer}
 use Rattle.subdivision.specs.Lists.{over}
 use Rattle.frames.specs.Placing.{decimal, vertex_word, edge_word, zone_word, answer_text}
-use Rattle.framing.proofs.AnswerTexts.{decimal_short, numbered_long, refused_long}
+use Rattle.framing.proofs.AnswerTexts.{decimal_short, numbered_long}
 use Rattle.answers.proofs.put_answer.Goals as goal
 
 -- a number of four bytes
@@ -16,7 +17,7 @@ short n h = decimal_short n 9 (omega arith)
 
 -- what is ensured of the place past the line and the text
 abbrev Ensured : Answer → List ℕ → ℕ → ℕ → List ℕ → Type 0
-Ensured a lent at r text = ((r ≡ at + length (answer_text a)) × (length (answer_text a) ≤ 30)) × (text ≡ over (answer_text a) lent at)
+Ensured a lent at r text = ((r ≡ at + length (answer_text (Ok a))) × (length (answer_text (Ok a)) ≤ 30)) × (text ≡ over (answer_text (Ok a)) lent at)
 
 pub put_numbered-requires : goal.put_numbered-requires
 put_numbered-requires c = omega (arith, numbered_long vertex_word c.in-Vertex.v, short c.in-Vertex.v (omega arith))
@@ -27,40 +28,26 @@ put_numbered-requires-in-Edge c = omega (arith, numbered_long edge_word c.in-Edg
 pub put_numbered-requires-in-Zone : goal.put_numbered-requires-in-Zone
 put_numbered-requires-in-Zone c = omega (arith, numbered_long zone_word c.in-Zone.z, short c.in-Zone.z (omega arith))
 
-pub put_refusal-requires : goal.put_refusal-requires
-put_refusal-requires c =
-    let r = c.in-Refused in
-    omega (arith, refused_long r.number r.item, short r.number (omega arith), short r.item (omega arith))
-
 pub returns-in-Vertex : goal.returns-in-Vertex
 unfolding answer_text
 returns-in-Vertex c =
     let w = c.put_numbered in
-    let p = subst (λ (a : Answer). Ensured a c.args.text.now c.args.at w.result w.new.text) (sym c.in-Vertex.is)
+    let p = subst (λ (a : Answer). Ensured a c.args.text.now.bytes.now c.args.text.now.at w.new.text.at w.new.text.bytes.now) (sym c.in-Vertex.is)
     ((w.ensures.value, omega (arith, numbered_long vertex_word c.in-Vertex.v, short c.in-Vertex.v (omega arith))), w.ensures.text_after) in
-    record { value = p.0; text_after = p.1 }
+    record { value = p.0; text_after = p.1; same_text = w.ensures.same_text }
 
 pub returns-in-Edge : goal.returns-in-Edge
 unfolding answer_text
 returns-in-Edge c =
     let w = c.put_numbered-in-Edge in
-    let p = subst (λ (a : Answer). Ensured a c.args.text.now c.args.at w.result w.new.text) (sym c.in-Edge.is)
+    let p = subst (λ (a : Answer). Ensured a c.args.text.now.bytes.now c.args.text.now.at w.new.text.at w.new.text.bytes.now) (sym c.in-Edge.is)
     ((w.ensures.value, omega (arith, numbered_long edge_word c.in-Edge.e, short c.in-Edge.e (omega arith))), w.ensures.text_after) in
-    record { value = p.0; text_after = p.1 }
+    record { value = p.0; text_after = p.1; same_text = w.ensures.same_text }
 
 pub returns-in-Zone : goal.returns-in-Zone
 unfolding answer_text
 returns-in-Zone c =
     let w = c.put_numbered-in-Zone in
-    let p = subst (λ (a : Answer). Ensured a c.args.text.now c.args.at w.result w.new.text) (sym c.in-Zone.is)
+    let p = subst (λ (a : Answer). Ensured a c.args.text.now.bytes.now c.args.text.now.at w.new.text.at w.new.text.bytes.now) (sym c.in-Zone.is)
     ((w.ensures.value, omega (arith, numbered_long zone_word c.in-Zone.z, short c.in-Zone.z (omega arith))), w.ensures.text_after) in
-    record { value = p.0; text_after = p.1 }
-
-pub returns-in-Refused : goal.returns-in-Refused
-unfolding answer_text
-returns-in-Refused c =
-    let r = c.in-Refused in
-    let w = c.put_refusal in
-    let p = subst (λ (a : Answer). Ensured a c.args.text.now c.args.at w.result w.new.text) (sym r.is)
-    ((w.ensures.value, omega (arith, refused_long r.number r.item, short r.number (omega arith), short r.item (omega arith))), w.ensures.text_after) in
-    record { value = p.0; text_after = p.1 }
+    record { value = p.0; text_after = p.1; same_text = w.ensures.same_text }

@@ -1,27 +1,48 @@
--- The parts of the local arrays are zeros, and as long as there are zones.
-use mathlib.Core.Path.{◌≡◌, refl, sym, ap, ◌∙◌}
-use Prim.Native.Nat.{ℕ}
-use lib.ListN.{length, take, replicate}
+-- No zone is queued at first, and when the steps of all those queued are taken, the zone's mark tells whether it is on a circle.
+use Rattle.std.proofs.Common.{◌∙◌, ◌<◌, take, length, get_or, arith}
+use lib.Seq.{get_or-take}
 use Rattle.subdivision.specs.Limits.{max_zones}
-use Rattle.subdivision.specs.Formula.{holds}
-use Rattle.subdivision.specs.ZoneLine.{on_circle}
-use Rattle.theory.proofs.Lists.{zeros_part}
+use Rattle.theory.proofs.Reached.{reached_circle, fits_within}
 use Rattle.line.specs.Waiting.{zones_of}
-use Rattle.circles.proofs.Queued.{zeros_are}
+use Rattle.circles.proofs.Queued.{looking_none}
+use Rattle.circles.proofs.Walked.{walked_first, walked_next, walked_named}
 use Rattle.circles.proofs.on_circle.Goals as goal
 
-pub slice_bounds-comes_back-end : goal.slice_bounds-comes_back-end
-slice_bounds-comes_back-end c = zeros_part max_zones c.args.zones c.requires.zone_lt_zones.0.1
+pub invariant_of-queue : goal.invariant_of-queue
+invariant_of-queue c = record { looking = looking_none max_zones }
 
-pub slice_bounds-comes_back-end-2 : goal.slice_bounds-comes_back-end-2
-slice_bounds-comes_back-end-2 c = zeros_part max_zones c.args.zones c.requires.zone_lt_zones.0.1
+pub loop-head-init : goal.loop-head-init
+loop-head-init c =
+    let g = c.args.steps.groups in
+    walked_first g.edges.now g.zones c.args.steps.named c.args.zone _ c.spread.ensures
 
-pub comes_back-requires : goal.comes_back-requires
-comes_back-requires c =
-    let n = c.args.zones in
-    let long : length (take n (replicate {A = ℕ} max_zones 0)) ≡ n = sym (zeros_part max_zones n c.requires.zone_lt_zones.0.1) in record { zone_in_bounds = ((rw long c.requires.zone_lt_zones.0.0, rw long c.requires.zone_lt_zones.0.1), rw long c.requires.zone_lt_zones.1); marks_value = (zeros_are max_zones n c.requires.zone_lt_zones.0.1, refl); grouped = (c.requires.grouped.0, rw long c.requires.grouped.1) }
+pub spread-requires-in-loop-head : goal.spread-requires-in-loop-head
+spread-requires-in-loop-head c =
+    let g = c.args.steps.groups in
+    let l = c.loop-head in
+    let q = l.queue in
+    let inside : l.head < length (take q.count q.zones) = omega (arith, q.looking.long) in
+    omega (arith, walked_named g.edges.now g.zones c.args.steps.named c.args.zone _ l.head l.head l.invariant inside, get_or-take q.count q.zones l.head 0 (omega arith))
+
+pub loop-head-smaller : goal.loop-head-smaller
+loop-head-smaller c =
+    let g = c.args.steps.groups in
+    let l = c.loop-head in
+    let q = l.queue in
+    omega (arith, q.looking.long, fits_within (zones_of g.edges.now g.zones) (take q.count q.zones) l.invariant.fits)
+
+pub loop-head-preserved : goal.loop-head-preserved
+loop-head-preserved c =
+    let g = c.args.steps.groups in
+    let l = c.loop-head in
+    let q = l.queue in
+    walked_next g.edges.now g.zones c.args.steps.named c.args.zone _ l.head (get_or q.zones l.head 0) l.invariant (omega (arith, q.looking.long)) (get_or-take q.count q.zones l.head 0 (omega arith)) _ c.spread-in-loop-head.ensures
 
 pub returns : goal.returns
 returns c =
-    let a = c.args in
-    c.comes_back.ensures ∙ ap (λ (n : ℕ). holds (on_circle (zones_of a.edges.now n) a.zone)) (sym (zeros_part max_zones a.zones c.requires.zone_lt_zones.0.1))
+    let g = c.args.steps.groups in
+    let l = c.loop-head in
+    let q = l.queue in
+    let s = zones_of g.edges.now g.zones in
+    let list = take q.count q.zones in
+    c.has.ensures ∙ reached_circle s c.args.zone list l.head l.invariant.reached (omega (arith, q.looking.long)) (fits_within s list l.invariant.fits)

@@ -1,32 +1,16 @@
--- The outer loop's invariant: every edge below e is clear. The inner one's: e is in conflict with no edge below f.
-use mathlib.Core.Bool.{Bool, not}
-use mathlib.Core.List.{List}
-use Prim.Native.Nat.{ℕ, ◌≤◌, ◌<◌, ◌-◌}
-use lib.IntN.{ℤ, pos}
+-- The outer loop's invariant: no edge below e is in conflict with a lower-numbered one. The inner one's: e is in conflict with no edge below f.
+use Rattle.std.proofs.Common.{◌≡◌, not, ℕ, ◌<◌, false}
+use Rattle.std.specs.Prelude.{None}
 use Rattle.subdivision.specs.Formula.{holds, Means}
-use Rattle.subdivision.specs.Sheet.{Sheet, sheet_of, segment}
+use Rattle.subdivision.specs.Sheet.{segment_of}
 use Rattle.subdivision.specs.Lines.{conflict}
 use Rattle.subdivision.specs.Rules.{edge_clear}
-use Rattle.theory.proofs.Lowest.{Searched}
+use Rattle.tables.specs.Lent.{drawn}
 use Rattle.conflicts.proofs.first_conflict.Given as goal
-
--- the sheet of the two tables
-abbrev pub tables : List ℤ → List ℕ → Sheet
-tables vertices edges = sheet_of (pos 0) (pos 0) vertices edges 0
-
--- edge e is in conflict with a lower-numbered one
-abbrev pub faulty : List ℤ → List ℕ → ℕ → Bool
-faulty vertices edges e = not (holds (edge_clear (tables vertices edges) e))
 
 abbrev pub invariant-loop-f : goal.invariant-loop-f
 invariant-loop-f l =
-    (l.f ≤ l.e) × ((k : ℕ) → k < l.f → Means (conflict (segment (tables l.vertices l.edges) k) (segment (tables l.vertices l.edges) l.e)) → ⊥)
-
-abbrev pub decreases-loop-f : goal.decreases-loop-f
-decreases-loop-f l = l.e - l.f
+    (l.lowest ≡ None) × ((k : ℕ) → k < l.f → Means (conflict (segment_of l.fn.tables.vertices.now l.fn.tables.edges.now k) (segment_of l.fn.tables.vertices.now l.fn.tables.edges.now l.e)) → ⊥)
 
 abbrev pub invariant-pairs : goal.invariant-pairs
-invariant-pairs l = Searched (faulty l.vertices l.edges) l.count l.e
-
-abbrev pub decreases-pairs : goal.decreases-pairs
-decreases-pairs l = l.count - l.e
+invariant-pairs l = (l.lowest ≡ None) × ((k : ℕ) → k < l.e → not (holds (edge_clear (drawn l.fn.tables) k)) ≡ false)

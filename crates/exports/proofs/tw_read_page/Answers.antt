@@ -1,21 +1,15 @@
--- The answer's numbers are its values, and the tables are what the reader leaves.
-use mathlib.Core.Path.{sym, ap, ◌∙◌}
-use mathlib.Core.List.{[], ◌∷◌}
-use native.Mathlib.Omega.{arith}
-use mir.Syntax.{w32}
+use Rattle.std.proofs.Common.{sym, ap, ◌∙◌, []}
 use mir.Facts.{to_z-of_z}
+use Rattle.std.proofs.Common.{◌∷◌, w32}
+use native.Mathlib.Omega.{arith}
 use Rattle.frames.specs.Digits.{word_of}
 use Rattle.frames.specs.Answers.{page_values}
 use Rattle.exports.proofs.tw_read_page.Goals as goal
 
-pub returns-in-Refused : goal.returns-in-Refused
+pub returns-in-Ok-clause-page : goal.returns-in-Ok-clause-page
 unfolding page_values
-returns-in-Refused c =
-    let w = c.read_page.ensures in record { page = ap page_values (sym c.in-Refused.is ∙ w.page); vertices = w.vertices; edges = w.edges; points = w.points }
+returns-in-Ok-clause-page c = (λ i. 0 ∷ 0 ∷ (c.word_of.ensures ∙ ap word_of (to_z-of_z {w = w32} {z = c.in-Ok.read.head.west} (record { sfits = omega arith }))) i ∷ (c.word_of-in-Ok.ensures ∙ ap word_of (to_z-of_z {w = w32} {z = c.in-Ok.read.head.east} (record { sfits = omega arith }))) i ∷ c.in-Ok.read.head.vertices ∷ c.in-Ok.read.head.edges ∷ c.in-Ok.read.head.zones ∷ c.in-Ok.read.points ∷ []) ∙ ap page_values (sym c.in-Ok.is ∙ c.read_page.ensures.page)
 
-pub returns-in-Sheet : goal.returns-in-Sheet
+pub returns-in-Err-clause-page : goal.returns-in-Err-clause-page
 unfolding page_values
-returns-in-Sheet c =
-    let w = c.read_page.ensures in
-    let west = c.word_of-west.ensures ∙ ap word_of (to_z-of_z {w = w32} {z = c.in-Sheet.head.west} (record { sfits = omega arith })) in
-    let east = c.word_of-east.ensures ∙ ap word_of (to_z-of_z {w = w32} {z = c.in-Sheet.head.east} (record { sfits = omega arith })) in record { page = (λ i. 0 ∷ 0 ∷ west i ∷ east i ∷ c.in-Sheet.head.vertices ∷ c.in-Sheet.head.edges ∷ c.in-Sheet.head.zones ∷ c.in-Sheet.count ∷ []) ∙ ap page_values (sym c.in-Sheet.is ∙ w.page); vertices = w.vertices; edges = w.edges; points = w.points }
+returns-in-Err-clause-page c = ap page_values (sym c.in-Err.is ∙ c.read_page.ensures.page)

@@ -1,30 +1,22 @@
-use mathlib.Core.Path.{◌≡◌, ap, ◌∙◌}
-use native.Mathlib.Omega.{arith}
-use lib.ListN.{length, drop}
-use lib.Seq.{drop-length}
-use Rattle.indexing.proofs.Placing.{placing_down, length_placing, placing_whole}
+use Rattle.std.proofs.Common.{◌≡◌, ◌∙◌, refl, [], ◌∷◌, append-nil, arith}
+use Rattle.std.specs.Iterator.Adapters.{rev_source, enumerate_source}
+use Rattle.std.specs.Slice.Iter.{iter_rest}
+use Rattle.indexing.proofs.Placing.{placing_down, placing_end, placing_whole}
 use Rattle.indexing.proofs.places.Goals as goal
 
 pub loop-p-init : goal.loop-p-init
 loop-p-init c =
-    let a = c.args in
-    (omega arith, rw (drop-length a.line.now))
+    let all : iter_rest (enumerate_source (rev_source c.into_iter-p-iterator.result)) ≡ c.args.line.now = cc in
+    ([], rw (all, append-nil c.args.line.now), refl, cc)
 
 pub loop-p-preserved : goal.loop-p-preserved
 loop-p-preserved c =
-    let l = c.loop-p in
-    let a = c.args in
-    (omega arith, c.store.ensures ∙ placing_down a.line.now a.place.now l.place l.p (omega arith) (omega arith) l.invariant.1)
-
-pub shape_of-place : goal.shape_of-place
-shape_of-place c =
-    let l = c.loop-p in
-    let a = c.args in
-    ap length l.invariant.1 ∙ length_placing l.p (drop l.p a.line.now) a.place.now
+    let i = c.loop-p.invariant in
+    let h = c.in-Some.ensures.steps in
+    let next = placing_down _ _ _ i.0 _ _ c.in-Some.z.now c.in-Some.p i.1 h.1.0 (omega (arith, h.1.1, i.3)) i.2 in
+    (c.in-Some.z.now ∷ i.0, next.0, c.store.ensures ∙ next.1, h.0 ∙ i.3)
 
 pub returns : goal.returns
 returns c =
-    let l = c.loop-p in
-    let a = c.args in
-    let end : l.p ≡ 0 = omega arith in
-    l.invariant.1 ∙ rw end (placing_whole a.line.now a.place.now)
+    let i = c.loop-p.invariant in
+    placing_end _ _ i.0 c.args.place.now _ i.1 c.in-None.ensures.steps.1.0 i.2 ∙ placing_whole c.args.line.now c.args.place.now

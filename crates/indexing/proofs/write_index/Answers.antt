@@ -1,23 +1,27 @@
--- The local tables have room for their parts.
-use mathlib.Core.Path.{sym, ◌∙◌}
-use Prim.Native.Nat.{suc, ◌+◌, ◌/◌}
-use native.Mathlib.Numerals.{add-one}
-use native.Mathlib.Omega.{arith}
-use lib.ListN.{length}
+-- The places, the order and the starts are those of `packed`, and the four parts are written one after the other.
+use Rattle.std.proofs.Common.{◌≡◌, ◌∙◌, sym, ap, ◌/◌, ◌+◌, ℕ, suc, List, length, add-one, rules, arith}
 use Rattle.subdivision.specs.Limits.{max_edges, max_zones}
+use Rattle.subdivision.specs.Lists.{tab, put}
+use Rattle.subdivision.specs.Order.{in_order}
+use Rattle.subdivision.specs.ZoneLine.{position}
+use Rattle.theory.proofs.Groups.{group_start}
 use Rattle.theory.proofs.Lists.{zeros_part}
+use Rattle.indexing.specs.Keys.{placed_key}
+use Rattle.indexing.proofs.Packed.{places_whole, parts_packed}
 use Rattle.indexing.proofs.write_index.Goals as goal
 
-pub slice_bounds-fill-end : goal.slice_bounds-fill-end
-slice_bounds-fill-end c = zeros_part max_zones (length c.args.line.now) (omega arith)
-
-pub slice_bounds-fill-end-2 : goal.slice_bounds-fill-end-2
-slice_bounds-fill-end-2 c = zeros_part max_edges (length c.args.edges.now / 4) (omega arith)
-
-pub slice_bounds-fill-end-3 : goal.slice_bounds-fill-end-3
-slice_bounds-fill-end-3 c = zeros_part (suc max_zones) (length c.args.line.now + 1) (omega arith)
-
-pub fill-requires : goal.fill-requires
-fill-requires c =
-    let n = length c.args.line.now in
-    let m = length c.args.edges.now / 4 in record { edges_len_bound = c.requires.edges_len_bound; by_index = c.requires.by_index; by_index_2 = c.requires.by_index_2; place_len = (sym (zeros_part max_zones n (omega arith)), (sym (zeros_part max_edges m (omega arith)), sym (zeros_part (suc max_zones) (n + 1) (omega arith)) ∙ add-one n)) }
+pub returns : goal.returns
+returns c =
+    let vertices = c.args.tables.vertices.now in
+    let edges = c.args.tables.edges.now in
+    let line = c.args.line.now in
+    let place : List ℕ = c.places.new.place in
+    let order : List ℕ = c.group_by_key.new.order in
+    let starts : List ℕ = c.group_by_key.new.starts in
+    let key : ℕ → ℕ = placed_key vertices edges place in
+    let keyed = c.group_by_key.ensures.sorted key (λ k r h p. search rules) in
+    let placed : place ≡ tab (λ z. position z line) (length line) =
+    c.places.ensures ∙ ap (tab _) (sym (zeros_part max_zones (length line) (omega arith))) ∙ places_whole line _ c.requires.by_index in
+    let sorted : order ≡ in_order key (length edges / 4) = keyed.0 ∙ ap (in_order key) (sym (zeros_part max_edges c.edge_count.result (omega (arith, c.edge_count.ensures))) ∙ c.edge_count.ensures) in
+    let grouped : starts ≡ tab (group_start key order) (suc (length line)) = keyed.1 ∙ ap (tab (group_start key order)) (sym (zeros_part (suc max_zones) (length line + 1) (omega arith)) ∙ add-one (length line)) in
+    c.parts.ensures ∙ ap (λ (w : List ℕ). put w c.args.index.now) (parts_packed vertices edges line c.requires.by_index_2 place order starts placed sorted grouped)

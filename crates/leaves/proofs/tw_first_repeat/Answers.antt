@@ -1,30 +1,19 @@
 -- It looks where the limit allows it.
-use mathlib.Core.Path.{◌≡◌, sym, ◌∙◌}
-use mathlib.Core.Bool.{not}
-use mathlib.Core.List.{List, []}
-use Prim.Native.Nat.{◌/◌, ◌<◌, ◌≤◌}
-use borrow.Author.Tests.{le-leb, lt-leb}
-use lib.IntN.{ℤ, pos}
-use lib.ListN.{length}
-use Rattle.subdivision.specs.Limits.{max_vertices}
-use Rattle.subdivision.specs.Formula.{holds}
-use Rattle.subdivision.specs.Lowest.{lowest}
-use Rattle.subdivision.specs.Sheet.{sheet_of}
-use Rattle.subdivision.specs.Rules.{vertex_new}
+use Rattle.std.proofs.Common.{rules, ◌≡◌, refl, sym, ℕ, Bool, Option, Some, None}
+use Rattle.std.specs.Prelude.{unwrap_or}
+use Rattle.subdivision.specs.Lowest.{lowest, first}
+use Rattle.theory.proofs.Lowest.{first_some, first_none}
 use Rattle.leaves.specs.Repeated.{repeat_among}
 use Rattle.leaves.proofs.tw_first_repeat.Goals as goal
 
-too_many : (vertices : List ℤ) → max_vertices < length vertices / 2 → repeat_among vertices ≡ 4294967295
-unfolding repeat_among
-too_many vertices h = rw (lt-leb (length vertices / 2) max_vertices h, repeat_among)
-
-looked : (vertices : List ℤ) → length vertices / 2 ≤ max_vertices
-    → repeat_among vertices ≡ lowest (λ v. not (holds (vertex_new (sheet_of (pos 0) (pos 0) vertices [] 0) v))) (length vertices / 2)
-unfolding repeat_among
-looked vertices h = rw (le-leb (length vertices / 2) max_vertices h, repeat_among)
-
-pub returns-then-count-gt-MAX_VERTICES : goal.returns-then-count-gt-MAX_VERTICES
-returns-then-count-gt-MAX_VERTICES c = sym (too_many _ c.if-count-gt-MAX_VERTICES.true)
+-- the first that passes, or the count where none does, is the lowest
+or_count : (test : ℕ → Bool) (count : ℕ) → unwrap_or (first test count) count ≡ lowest test count
+or_count test count = go (first test count) refl
+  where
+    go : (r : Option ℕ) → first test count ≡ r → unwrap_or r count ≡ lowest test count
+    go None e = sym (first_none test count e)
+    go (Some i) e = sym (first_some test count i e).0
 
 pub returns : goal.returns
-returns c = c.first_repeat.ensures ∙ sym (looked _ c.if-count-gt-MAX_VERTICES.false)
+unfolding repeat_among
+returns c = search (rules, or_count)

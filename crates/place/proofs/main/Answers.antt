@@ -2,4 +2,4 @@
 use Rattle.place.proofs.main.Goals as goal
 
 pub slice_bounds-text-end : goal.slice_bounds-text-end
-slice_bounds-text-end c = (c.place_page.ensures.counted _ c.in-Text.is).0
+slice_bounds-text-end c = (c.place_page.ensures.counted _ c.in-Ok.is).0

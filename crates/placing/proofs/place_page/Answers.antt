@@ -2,16 +2,15 @@
 use mathlib.Core.Path.{◌≡◌, sym, ap, subst, ◌∙◌}
 use mathlib.Core.List.{List}
 use Prim.Native.Nat.{ℕ}
-use native.Mathlib.Nat.{zero-add}
 use native.Mathlib.Omega.{arith}
 use lib.Dec.{lit<}
 use lib.ListN.{length}
 use Rattle.io.specs.Counts.{IsPrefixLen}
 use Rattle.subdivision.specs.Lists.{put}
-use Rattle.frames.specs.declared.Written.{Written}
-use Rattle.frames.specs.Texts.{PageWritten}
-use Rattle.frames.specs.Placing.{refused_text, place_page}
-use Rattle.theory.proofs.Written.{over_front}
+use Rattle.std.specs.Prelude.{Ok}
+use Rattle.subdivision.specs.Results.{refused}
+use Rattle.frames.specs.Texts.{Written, PageWritten}
+use Rattle.frames.specs.Placing.{place_page}
 use Rattle.placing.proofs.Printed.{refused_short, placed_long, placed_beyond, places, places_short, printed_counts}
 use Rattle.placing.proofs.place_page.Goals as goal
 
@@ -19,7 +18,7 @@ use Rattle.placing.proofs.place_page.Goals as goal
 abbrev Ensured : List ℕ → List ℕ → Written → List ℕ → Type 0
 Ensured page lent r text =
     (r ≡ (place_page page lent).written) × ((text ≡ (place_page page lent).text)
-    × ((count : ℕ) → r ≡ Written.Text count → IsPrefixLen count text))
+    × ((count : ℕ) → r ≡ Ok count → IsPrefixLen count text))
 
 -- it follows from the definition
 ensured : (page lent : List ℕ) (r : Written) (text : List ℕ) → ◌≡◌ {A = PageWritten} (record { written = r; text = text }) (place_page page lent) → Ensured page lent r text
@@ -35,36 +34,36 @@ pub returns-then-text-lt-MAX_TEXT : goal.returns-then-text-lt-MAX_TEXT
 returns-then-text-lt-MAX_TEXT c =
     let a = c.args in
     let e = sym (places_short a.page.now a.text.now (omega arith)) in
-    let p = ensured a.page.now a.text.now (Written.Refused 33) a.text.now e in
+    let p = ensured a.page.now a.text.now (refused 33 0) a.text.now e in
     record { written = p.0; text = p.1.0; counted = p.1.1 }
 
-pub put_refusal-requires : goal.put_refusal-requires
-put_refusal-requires c = omega (arith, refused_short 34 0 (lit< tt) (lit< tt))
+pub put_refused-requires : goal.put_refused-requires
+put_refused-requires c = omega (arith, refused_short 34 0 (lit< tt) (lit< tt))
 
 pub returns-then-page-gt-MAX_PAGE : goal.returns-then-page-gt-MAX_PAGE
 returns-then-page-gt-MAX_PAGE c =
     let a = c.args in
-    let r = c.put_refusal in
+    let r = c.put_refused in
     let line = sym (placed_long a.page.now (omega arith)) in
     let e = sym (places a.page.now a.text.now (omega arith)) in
-    let long = r.ensures.value ∙ zero-add (length (refused_text 34 0)) ∙ ap length line in
-    let text = r.ensures.text_after ∙ over_front (refused_text 34 0) a.text.now ∙ ap (λ t. put t a.text.now) line in
-    let p = ensured a.page.now a.text.now (Written.Text r.result) r.new.text ((λ i. record { written = Written.Text (long i); text = text i }) ∙ e) in
+    let long = r.ensures.value ∙ ap length line in
+    let text = r.ensures.text_after ∙ ap (λ t. put t a.text.now) line in
+    let p = ensured a.page.now a.text.now (Ok r.result) r.new.text ((λ i. record { written = Ok (long i); text = text i }) ∙ e) in
     record { written = p.0; text = p.1.0; counted = p.1.1 }
 
-pub put_refusal-requires-then-head_beyond : goal.put_refusal-requires-then-head_beyond
-put_refusal-requires-then-head_beyond c = omega (arith, refused_short 1 0 (lit< tt) (lit< tt))
+pub put_refused-requires-then-head_beyond : goal.put_refused-requires-then-head_beyond
+put_refused-requires-then-head_beyond c = omega (arith, refused_short 1 0 (lit< tt) (lit< tt))
 
 pub returns-then-head_beyond : goal.returns-then-head_beyond
 returns-then-head_beyond c =
     let a = c.args in
-    let r = c.put_refusal-then-head_beyond in
+    let r = c.put_refused-then-head_beyond in
     let beyond = sym c.head_beyond.ensures ∙ c.if-head_beyond.true in
     let line = sym (placed_beyond a.page.now (omega arith) beyond) in
     let e = sym (places a.page.now a.text.now (omega arith)) in
-    let long = r.ensures.value ∙ zero-add (length (refused_text 1 0)) ∙ ap length line in
-    let text = r.ensures.text_after ∙ over_front (refused_text 1 0) a.text.now ∙ ap (λ t. put t a.text.now) line in
-    let p = ensured a.page.now a.text.now (Written.Text r.result) r.new.text ((λ i. record { written = Written.Text (long i); text = text i }) ∙ e) in
+    let long = r.ensures.value ∙ ap length line in
+    let text = r.ensures.text_after ∙ ap (λ t. put t a.text.now) line in
+    let p = ensured a.page.now a.text.now (Ok r.result) r.new.text ((λ i. record { written = Ok (long i); text = text i }) ∙ e) in
     record { written = p.0; text = p.1.0; counted = p.1.1 }
 
 pub place_read-requires : goal.place_read-requires
@@ -77,5 +76,5 @@ returns c =
     let a = c.args in
     let r = c.place_read in
     let e = sym (places a.page.now a.text.now (omega arith)) in
-    let p = ensured a.page.now a.text.now (Written.Text r.result) r.new.text ((λ i. record { written = Written.Text (r.ensures.value i); text = r.ensures.text_after i }) ∙ e) in
+    let p = ensured a.page.now a.text.now (Ok r.result) r.new.text ((λ i. record { written = Ok (r.ensures.value i); text = r.ensures.text_after i }) ∙ e) in
     record { written = p.0; text = p.1.0; counted = p.1.1 }

@@ -1,16 +1,17 @@
--- The parts of the local arrays have a place for each vertex that is sorted, as `sort_by_point` asks.
-use mathlib.Core.Path.{sym}
-use lib.ListN.{length}
-use Rattle.subdivision.specs.Limits.{max_vertices}
-use Rattle.theory.proofs.Lists.{zeros_part}
+-- The order that the keys give is the one of the points, since each y fits the key's lower half.
+use Rattle.std.proofs.Common.{◌≡◌, ℕ, ◌<◌, length, List, sym, subst, rules}
+use Rattle.subdivision.specs.Order.{SortedBelow, in_order}
+use Rattle.subdivision.specs.Sheet.{vertex_y}
+use Rattle.theory.proofs.Order.{sorted_below}
+use Rattle.theory.proofs.Repeats.{point_key, sorted_by_point}
 use Rattle.repeats.proofs.point_order.Goals as goal
 
-pub slice_bounds-sort_by_point-end : goal.slice_bounds-sort_by_point-end
-slice_bounds-sort_by_point-end c = zeros_part max_vertices (length c.args.order.now) c.requires
-
-pub slice_bounds-sort_by_point-end-2 : goal.slice_bounds-sort_by_point-end-2
-slice_bounds-sort_by_point-end-2 c = zeros_part max_vertices (length c.args.order.now) c.requires
-
-pub sort_by_point-requires : goal.sort_by_point-requires
-sort_by_point-requires c =
-    let long = sym (zeros_part max_vertices (length c.args.order.now) c.requires) in record { order_len_bound = c.requires; keys_len = (long, long) }
+pub returns : goal.returns
+returns c =
+    let n = length c.args.order.now in
+    let key = point_key c.args.vertices.now in
+    let order = c.sort_by_key.new.order in
+    let ordered : order ≡ in_order key n = c.sort_by_key.ensures.sorted key (λ k r h p. search rules) in
+    let once : SortedBelow key n order = subst (λ (l : List ℕ). SortedBelow key n l) (sym ordered) (sorted_below key n) in
+    let fits : (v : ℕ) → v < n → vertex_y c.args.vertices.now v < 4294967296 = λ v h. let called = c.sort_by_key.ensures.called v h in search rules in
+    record { sorted = ordered; once = once; by_point = sorted_by_point c.args.vertices.now n order fits once; fits = fits }

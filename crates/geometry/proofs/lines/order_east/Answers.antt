@@ -1,7 +1,6 @@
--- `geometry::lines::order_east` meets its contract: the overlap ends at a vertex of the one edge, and the side of that vertex is the order there.
-use mathlib.Core.Path.{◌∙◌, ap}
+-- The overlap ends at a vertex of the one edge, and the side of that vertex is the order there.
+use Rattle.std.proofs.Common.{◌∙◌, ap, arith}
 use native.Mathlib.Nat.{min-eq_left, min-eq_right, le_of_lt}
-use native.Mathlib.Omega.{arith}
 use Rattle.theory.proofs.Heights.{east_end, side_of_end}
 use Rattle.geometry.specs.Crossing.{turned}
 use Rattle.geometry.proofs.Crossing.{turned_side_of_end}

@@ -1,37 +1,35 @@
-use mathlib.Core.Path.{◌≡◌, sym, ◌∙◌}
-use mathlib.Core.Logic.{⊎_elim}
-use Prim.Native.Nat.{suc, ◌-◌, ◌+◌}
-use native.Mathlib.Omega.{arith}
-use borrow.Author.Tests.{not-true, not-false}
-use lib.ListN.{get_or}
+-- Every byte of the part is a digit, or one of them is none.
+use Rattle.std.proofs.Common.{◌≡◌, sym, arith, rules, Bool, true, false, List, ℕ, ◌+◌, ◌-◌, ◌<◌, ◌≤◌, length, get_or, drop, slice_range}
+use Rattle.std.proofs.lemmas.Iterator.{cases_from_all, YieldsList-from_slice}
+use Rattle.std.proofs.lemmas.List.{get_or-drop, get_or-take, length-drop, length-take-le}
+use Rattle.std.specs.Bool.{MatchBool}
+use Rattle.std.specs.List.{AllWithin, HoldsAt}
+use Rattle.subdivision.specs.Formula.{holds}
 use Rattle.frames.specs.Digits.{is_digit}
 use Rattle.frames.specs.Lines.{is_hexadecimal}
-use Rattle.theory.proofs.Decide.{held, fails, means, denies, below_suc}
+use Rattle.theory.proofs.Decide.{held, fails, means, denies}
 use Rattle.hexadecimal.proofs.digits.hexadecimal.Goals as goal
 
-pub loop-i-init : goal.loop-i-init
-loop-i-init c = ((omega arith, omega arith), λ k h. absurd (omega arith))
+-- a byte of the part is one of the page
+part_byte : (page : List ℕ) (at end i : ℕ) → i < end - at → get_or (slice_range page at end) i 0 ≡ get_or page (at + i) 0
+part_byte page at end i h = rw (get_or-take (end - at) (drop at page) i 0 h) (get_or-drop at page i 0)
 
-pub returns-then-not-is_digit : goal.returns-then-not-is_digit
-returns-then-not-is_digit c =
-    let a = c.args in
-    let i = c.loop-i.i in
-    let here : a.at + (i - a.at) ≡ i = omega arith in
-    let fault = sym c.is_digit.ensures ∙ not-true c.is_digit.result c.if-not-is_digit.true-raw in
-    sym (fails (is_hexadecimal a.page.now a.at a.end) (λ m. denies (is_digit (get_or a.page.now i 0)) fault (rw here at (m (i - a.at) (omega arith)))))
+-- how long the part is
+part_long : (page : List ℕ) (at end : ℕ) → end ≤ length page → length (slice_range page at end) ≡ end - at
+part_long page at end h = length-take-le (end - at) (drop at page) (omega (arith, length-drop at page))
 
-pub loop-i-preserved : goal.loop-i-preserved
-loop-i-preserved c =
-    let a = c.args in
-    let l = c.loop-i in
-    let here : a.at + (l.i - a.at) ≡ l.i = omega arith in
-    let more : l.i + 1 - a.at ≡ suc (l.i - a.at) = omega arith in
-    let digit = means (is_digit (get_or a.page.now l.i 0)) (sym c.is_digit.ensures ∙ not-false c.is_digit.result c.if-not-is_digit.false-raw) in
-    ((omega arith, omega arith), λ k h. ⊎_elim (λ (e : k ≡ l.i - a.at). rw (e, here) digit) (l.invariant.1 k) (below_suc (rw more at h)))
+-- what the look at the part says, as the formula says it
+told : (page : List ℕ) (at end : ℕ) → end ≤ length page → (r : Bool)
+    → MatchBool r (AllWithin (λ b. true ≡ holds (is_digit b)) (slice_range page at end) 0 (length (slice_range page at end)))
+    ((k : ℕ) × (k < length (slice_range page at end)) × HoldsAt (λ b. false ≡ holds (is_digit b)) (slice_range page at end) k)
+    → r ≡ holds (is_hexadecimal page at end)
+told page at end h true all =
+    sym (held (is_hexadecimal page at end) (λ k l. means (is_digit (get_or page (at + k) 0)) (rw (part_byte page at end k l) at (sym (all k 0 (omega arith) (omega (arith, part_long page at end h)))))))
+told page at end h false one =
+    sym (fails (is_hexadecimal page at end) (λ m. denies (is_digit (get_or page (at + one.0) 0)) (rw (part_byte page at end one.0 (omega (arith, one.1, part_long page at end h))) at (sym (one.2 0))) (m one.0 (omega (arith, one.1, part_long page at end h)))))
 
 pub returns : goal.returns
 returns c =
     let a = c.args in
-    let l = c.loop-i in
-    let all : l.i ≡ a.end = omega arith in
-    sym (held (is_hexadecimal a.page.now a.at a.end) (rw all at l.invariant.1))
+    told a.page.now a.at a.end c.requires.1 c.all.result
+    (cases_from_all _ _ c.all.result (λ b. true ≡ holds (is_digit b)) (λ b. false ≡ holds (is_digit b)) c.all.ensures.ran (YieldsList-from_slice (slice_range a.page.now a.at a.end) c.iter.ensures.rest) (λ x q k. search rules) (λ x q k. search rules))

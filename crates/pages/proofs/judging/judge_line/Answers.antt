@@ -1,5 +1,5 @@
 -- What stands where the line begins tells which step it is.
-use mathlib.Core.Path.{◌≡◌, sym, subst, ◌∙◌}
+use mathlib.Core.Path.{◌≡◌, refl, sym, subst, ◌∙◌}
 use mathlib.Core.List.{List}
 use Prim.Native.Nat.{ℕ}
 use native.Mathlib.Omega.{arith}
@@ -9,6 +9,7 @@ use Rattle.frames.specs.Lines.{line_at, line_start}
 use Rattle.frames.specs.Pages.{is_end}
 use Rattle.framing.proofs.LineEnds.{LineSaid, line_said, line_end_from}
 use Rattle.framing.proofs.Judging.{refused_30, refused_32, whole_not_end}
+use Rattle.pages.proofs.Counts.{counts_of}
 use Rattle.pages.proofs.judging.judge_line.Goals as goal
 
 -- what is known of the place where a line begins from what the reader says of it
@@ -19,28 +20,29 @@ told page at line r l place said e =
 pub judge_frame-requires : goal.judge_frame-requires
 judge_frame-requires c =
     let l = told c.args.page.now c.args.at c.args.line c.read_line.result _ c.requires.at_value.0 c.read_line.ensures c.in-Frame.is in
-    record { vertices_value = c.requires.vertices_value; means = (l.0, l.1.0); kind_value = (l.1.1.0, l.1.1.1) }
-
-pub returns-then-line-vertices : goal.returns-then-line-vertices
-returns-then-line-vertices c =
-    let page = c.args.page.now in
-    let l = told page c.args.at c.args.line c.read_line.result _ c.requires.at_value.0 c.read_line.ensures c.in-End.is in
-    refused_32 page c.args.line (λ w. omega (arith, l, w, line_end_from page (line_start page c.args.line)))
-    (λ e. omega (arith, e.1, c.requires.vertices_value.0, c.requires.vertices_value.1.0))
+    record { head_value = c.requires.head_value; means = (l.0, l.1.0); kind_value = (l.1.1.0, l.1.1.1) }
 
 pub returns-in-Malformed : goal.returns-in-Malformed
 returns-in-Malformed c =
     let l = told c.args.page.now c.args.at c.args.line c.read_line.result _ c.requires.at_value.0 c.read_line.ensures c.in-Malformed.is in
-    refused_30 c.args.page.now c.args.line l.0 l.1
+    (refl, refused_30 c.args.page.now c.args.line l.0 l.1)
 
 pub returns-in-Unfinished : goal.returns-in-Unfinished
 returns-in-Unfinished c =
     let l = told c.args.page.now c.args.at c.args.line c.read_line.result _ c.requires.at_value.0 c.read_line.ensures c.in-Unfinished.is in
-    refused_32 c.args.page.now c.args.line (λ w. omega (arith, l.1, w)) (λ e. omega (arith, l.0, e.0))
+    (refl, refused_32 c.args.page.now c.args.line (λ w. omega (arith, l.1, w)) (λ e. omega (arith, l.0, e.0)))
 
-pub returns-else-line-vertices : goal.returns-else-line-vertices
-returns-else-line-vertices c =
+pub returns-in-End : goal.returns-in-End
+returns-in-End c =
     let page = c.args.page.now in
     let l = told page c.args.at c.args.line c.read_line.result _ c.requires.at_value.0 c.read_line.ensures c.in-End.is in
-    let end : Means (is_end page c.args.line) = (omega (arith, l, c.requires.at_value.0, c.requires.at_value.1), omega (arith, c.requires.vertices_value.0, c.requires.vertices_value.1.0)) in
+    let n = counts_of page c.args.head c.requires.head_value in
+    (refl, refused_32 page c.args.line (λ w. omega (arith, l, w, line_end_from page (line_start page c.args.line))) (λ e. omega (arith, e.1, n.0, n.1.0)))
+
+pub returns-in-End-2 : goal.returns-in-End-2
+returns-in-End-2 c =
+    let page = c.args.page.now in
+    let l = told page c.args.at c.args.line c.read_line.result _ c.requires.at_value.0 c.read_line.ensures c.in-End.is in
+    let n = counts_of page c.args.head c.requires.head_value in
+    let end : Means (is_end page c.args.line) = (omega (arith, l, c.requires.at_value.0, c.requires.at_value.1), omega (arith, n.0, n.1.0)) in
     (end, λ g. whole_not_end page c.args.line g.0 end)

@@ -1,9 +1,5 @@
--- The loop's invariant: the first i numbers are written. The measure is what is left.
-use mathlib.Core.Path.{◌≡◌}
-use mathlib.Core.List.{List}
-use Prim.Native.Nat.{ℕ, ◌≤◌, ◌+◌, ◌-◌, ◌*◌, ◌/◌, ◌%◌}
-use lib.IntN.{ℤ}
-use Rattle.subdivision.specs.Lists.{tab, put}
+-- The loop's invariant: the numbers before i are written.
+use Rattle.std.proofs.Common.{◌≡◌, List, ℕ, ℤ, pos, ◌+◌, ◌*◌, ◌/◌, ◌%◌, ◌<◌, get_or}
 use Rattle.frames.specs.Digits.{signed_of}
 use Rattle.frames.specs.Lines.{number_at}
 use Rattle.pages.proofs.page_tables.read_pairs.Given as goal
@@ -13,7 +9,4 @@ abbrev pub word : List ℕ → ℕ → ℕ → ℤ
 word page at i = signed_of (number_at page (at + 19 * (i / 2)) (i % 2))
 
 abbrev pub invariant-loop-i : goal.invariant-loop-i
-invariant-loop-i l = (l.i ≤ 2 * l.count) × (l.table ≡ put (tab (word l.page l.at) l.i) l.initial.table)
-
-abbrev pub decreases-loop-i : goal.decreases-loop-i
-decreases-loop-i l = 2 * l.count - l.i
+invariant-loop-i l = (j : ℕ) → j < l.i → get_or l.word-items j (pos 0) ≡ word l.page l.at j

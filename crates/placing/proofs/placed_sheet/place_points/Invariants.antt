@@ -1,14 +1,9 @@
--- The loop's invariant: the lines of the first i points are written, each of at most 30 bytes. The measure is what is left.
-use mathlib.Core.Path.{◌≡◌}
-use Prim.Native.Nat.{◌-◌, ◌*◌, ◌/◌, ◌≤◌}
-use lib.ListN.{length}
+-- The loop's invariant: the lines of the first i points are written, each of at most 30 bytes.
+use Rattle.std.proofs.Common.{◌≡◌, ◌*◌, ◌≤◌, length}
 use Rattle.subdivision.specs.Lists.{put}
-use Rattle.subdivision.specs.Sheet.{sheet_of}
 use Rattle.frames.specs.Placing.{answers_text}
+use Rattle.tables.specs.Lent.{lent}
 use Rattle.placing.proofs.placed_sheet.place_points.Given as goal
 
 abbrev pub invariant-loop-i : goal.invariant-loop-i
-invariant-loop-i l = (l.i ≤ length l.points / 2) × ((l.at ≡ length (answers_text (sheet_of l.west l.east l.vertices l.edges l.zones) l.points l.i)) × ((l.at ≤ 30 * l.i) × (l.text ≡ put (answers_text (sheet_of l.west l.east l.vertices l.edges l.zones) l.points l.i) l.initial.text)))
-
-abbrev pub decreases-loop-i : goal.decreases-loop-i
-decreases-loop-i l = length l.points / 2 - l.i
+invariant-loop-i l = record { long : l.lines.at ≡ length (answers_text (lent l.sheet) l.points l.i); short : l.lines.at ≤ 30 * l.i; written : l.lines.bytes.now ≡ put (answers_text (lent l.sheet) l.points l.i) l.initial.lines.bytes.now; same_text : l.lines.bytes.ghost_name ≡ l.initial.lines.bytes.ghost_name }

@@ -1,19 +1,6 @@
-use mathlib.Core.Path.{sym, ap, ◌∙◌}
-use mathlib.Core.Bool.{not}
-use native.Mathlib.Omega.{arith}
-use Rattle.theory.proofs.Lowest.{search_starts, search_goes_on, search_ends}
+use Rattle.std.proofs.Common.{rules}
+use Rattle.theory.proofs.First.{first_in_range}
 use Rattle.records.proofs.edges.first_backward.Goals as goal
 
-pub loop-e-init : goal.loop-e-init
-loop-e-init c = search_starts _ _
-
-pub returns-then-not-edge_runs : goal.returns-then-not-edge_runs
-returns-then-not-edge_runs c =
-    search_ends _ _ _ c.loop-e.invariant (λ h. sym (ap not c.edge_runs.ensures) ∙ c.if-not-edge_runs.true-raw)
-
-pub loop-e-preserved : goal.loop-e-preserved
-loop-e-preserved c =
-    search_goes_on _ _ _ c.loop-e.invariant (omega arith) (sym (ap not c.edge_runs.ensures) ∙ c.if-not-edge_runs.false-raw)
-
 pub returns : goal.returns
-returns c = search_ends _ _ _ c.loop-e.invariant (λ h. absurd (omega arith))
+returns c = first_in_range _ _ _ _ _ c.find.ensures.ran (λ x q k. search rules) (λ x q k. search rules)

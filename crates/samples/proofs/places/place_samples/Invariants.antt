@@ -1,17 +1,14 @@
--- The loop's invariant: none of the samples passed is refused with 22, and their words are written. The measure is how many are left.
-use mathlib.Core.Path.{◌≡◌}
-use Prim.Native.Nat.{◌-◌}
-use lib.Dec.{eqb}
-use lib.ListN.{length}
+-- The loop's invariant: none of the samples passed is refused with 22, and where they lie is written.
+use Rattle.std.proofs.Common.{◌≡◌, ◌<◌, ℕ, false}
 use Rattle.subdivision.specs.Lists.{tab, put}
-use Rattle.subdivision.specs.Sheet.{sheet_of}
-use Rattle.ledger.specs.Months.{samples_of, reading_at, searched_at}
-use Rattle.theory.proofs.Lowest.{Searched}
-use Rattle.samples.specs.Words.{sample_word, damaged_word}
+use Rattle.tables.specs.Lent.{lent}
+use Rattle.samples.specs.Room.{samples_in}
+use Rattle.samples.specs.Spots.{found_spot, spot_in, nowhere}
 use Rattle.samples.proofs.places.place_samples.Given as goal
 
 abbrev pub invariant-loop-k : goal.invariant-loop-k
-invariant-loop-k l = Searched (λ i. eqb (sample_word (reading_at (samples_of l.points l.kinds l.values) i) (searched_at (sheet_of l.west l.east l.vertices l.edges l.zones) l.index (samples_of l.points l.kinds l.values) i)) damaged_word) (length l.kinds) l.k × (l.places ≡ put (tab (λ i. sample_word (reading_at (samples_of l.points l.kinds l.values) i) (searched_at (sheet_of l.west l.east l.vertices l.edges l.zones) l.index (samples_of l.points l.kinds l.values) i)) l.k) l.initial.places)
-
-abbrev pub decreases-loop-k : goal.decreases-loop-k
-decreases-loop-k l = length l.kinds - l.k
+invariant-loop-k l =
+    let at = found_spot (lent l.sheet) l.index (samples_in l.samples) in record {
+      passed : (i : ℕ) → i < l.k → nowhere (at i) ≡ false;
+      written : l.places ≡ put (tab (λ i. spot_in (at i)) l.k) l.initial.places;
+    }

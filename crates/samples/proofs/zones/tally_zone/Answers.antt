@@ -1,63 +1,40 @@
-use mathlib.Core.Path.{◌≡◌, sym, ap, ◌∙◌}
-use mathlib.Core.List.{[], ◌∷◌}
-use Prim.Native.Nat.{◌+◌, ◌-◌}
-use native.Mathlib.Omega.{arith}
-use borrow.Author.Tests.{eq-eqb, ne_eqb}
-use lib.ListN.{length}
+use Rattle.std.proofs.Common.{◌≡◌, arith, sym, ap, ◌∙◌, [], ◌∷◌}
 use Rattle.ledger.specs.Tallies.{none_entered, enter, entering}
-use Rattle.ledger.specs.Months.{samples_of, reading_at, those}
+use Rattle.ledger.specs.Months.{reading_at}
 use Rattle.accounting.proofs.Entering.{enter_adds}
 use Rattle.accounting.proofs.Those.{those_with, those_without, entering_append}
-use Rattle.samples.specs.Words.{has_word}
-use Rattle.samples.specs.Zones.{tally_by}
-use Rattle.samples.proofs.zones.tally_zone.Goals.{then-places-k, else-places-k}
+use Rattle.ledger.specs.Months.{those}
+use Rattle.samples.specs.declared.Spot.{Spot}
+use Rattle.samples.specs.Room.{samples_in}
+use Rattle.samples.specs.Spots.{lies_at}
+use Rattle.samples.proofs.Spots.{lies_is}
+use Rattle.samples.proofs.zones.tally_zone.Goals.{then-eq, else-eq}
 use Rattle.samples.proofs.zones.tally_zone.Goals as goal
 
-pub loop-left-init : goal.loop-left-init
-loop-left-init c =
-    let none : 0 ≡ length c.args.places.now - length c.args.places.now = omega arith in
-    (omega arith, (ap (tally_by (samples_of [] c.args.kinds.now c.args.values.now) c.args.places.now c.args.z) none, (omega arith, omega arith)))
-
-pub enter-tally-requires : goal.enter-tally-requires
-enter-tally-requires c =
-    let l = c.loop-left in
-    (omega (arith, l.invariant.1.1.0, c.requires.0, c.requires.1.1), omega (arith, l.invariant.1.1.1, c.requires.0, c.requires.1.1))
-
-pub loop-left-preserved : goal.loop-left-preserved
-loop-left-preserved c =
-    let l = c.loop-left in
-    let t = samples_of [] c.args.kinds.now c.args.values.now in
-    let test = has_word c.args.places.now c.args.z in
-    let k = length c.args.places.now - l.left in
-    let next : k + 1 ≡ length c.args.places.now - (l.left - 1) = omega (arith, l.invariant.0) in
-    elim c.if-places-k.branch [
-      | then-places-k w ↦
-          let so : c.if-places-k.tally ≡ enter l.tally (reading_at t k) = w.tally-is ∙ w.enter-tally.ensures ∙ ap (enter l.tally) w.reading_of.ensures in
-          let adds = enter_adds l.tally (reading_at t k) in (
-            omega (arith, l.invariant.0),
-            (
-              so
-                  ∙ ap (λ u. enter u (reading_at t k)) l.invariant.1.0
-                  ∙ sym (entering_append (reading_at t) none_entered (those test k) (k ∷ []))
-                  ∙ ap (entering (reading_at t) none_entered) (sym (those_with test k (eq-eqb _ _ w.if-places-k.true)))
-                  ∙ ap (tally_by t c.args.places.now c.args.z) next,
-              (omega (arith, ap (λ u. u.count) so, adds.0, l.invariant.1.1.0, next), omega (arith, ap (λ u. u.below) so, adds.1, l.invariant.1.1.1, next)),
-            ),
-          )
-      | else-places-k w ↦ (
-        omega (arith, l.invariant.0),
-        (
-          w.tally-is
-              ∙ l.invariant.1.0
-              ∙ ap (entering (reading_at t) none_entered) (sym (those_without test k (ne_eqb _ _ w.if-places-k.false)))
-              ∙ ap (tally_by t c.args.places.now c.args.z) next,
-          (omega (arith, ap (λ u. u.count) w.tally-is, l.invariant.1.1.0, next), omega (arith, ap (λ u. u.below) w.tally-is, l.invariant.1.1.1, next)),
-        ),
-      )
+pub loop-k-preserved : goal.loop-k-preserved
+loop-k-preserved c =
+    let l = c.loop-k in
+    let t = samples_in c.args.samples in
+    let test = lies_at c.args.places.now (Spot.Zone c.args.z) in
+    let tested : c.eq.result ≡ test l.k = c.eq.ensures ∙ lies_is c.args.places.now (Spot.Zone c.args.z) l.k in
+    elim c.if-eq.branch [
+      | then-eq w ↦
+          let so : c.if-eq.tally ≡ enter l.tally (reading_at t l.k) = w.tally-is ∙ w.enter-tally.ensures ∙ ap (enter l.tally) w.reading.ensures in
+          let adds = enter_adds l.tally (reading_at t l.k) in record {
+            entered =
+                so
+                ∙ ap (λ u. enter u (reading_at t l.k)) l.invariant.entered
+                ∙ sym (entering_append (reading_at t) none_entered (those test l.k) (l.k ∷ []))
+                ∙ ap (entering (reading_at t) none_entered) (sym (those_with test l.k (sym tested ∙ w.if-eq.true)));
+            few = omega (arith, ap (λ u. u.count) so, adds.0, l.invariant.few);
+            fewer = omega (arith, ap (λ u. u.below) so, adds.1, l.invariant.fewer);
+          }
+      | else-eq w ↦ record {
+        entered =
+            w.tally-is
+            ∙ l.invariant.entered
+            ∙ ap (entering (reading_at t) none_entered) (sym (those_without test l.k (sym tested ∙ w.if-eq.false)));
+        few = omega (arith, ap (λ u. u.count) w.tally-is, l.invariant.few);
+        fewer = omega (arith, ap (λ u. u.below) w.tally-is, l.invariant.fewer);
+      }
     ]
-
-pub returns : goal.returns
-returns c =
-    let l = c.loop-left in
-    let all : length c.args.places.now - l.left ≡ length c.args.places.now = omega arith in
-    l.invariant.1.0 ∙ ap (tally_by (samples_of [] c.args.kinds.now c.args.values.now) c.args.places.now c.args.z) all
