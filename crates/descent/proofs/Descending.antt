@@ -3,7 +3,7 @@ use mathlib.Core.Path.{◌≡◌, refl, sym, ap, ◌∙◌, subst}
 use mathlib.Core.Bool.{Bool, true, false, not}
 use mathlib.Core.List.{List, [], ◌∷◌, ◌++◌}
 use mathlib.Core.Logic.{by_cases}
-use Prim.Native.Nat.{ℕ, ◌+◌, ◌-◌, ◌/◌, ◌<◌, ◌≤◌, zero-le}
+use Prim.Native.Nat.{ℕ, ◌+◌, ◌-◌, ◌<◌, ◌≤◌, zero-le}
 use native.Mathlib.Nat.{le_trans, mul-le-mul}
 use native.Mathlib.Numerals.{add-one}
 use native.Mathlib.Decide.{dec_lt}
@@ -35,6 +35,30 @@ use Rattle.descent.proofs.Steps.{Follows}
 abbrev listed : Descent → List ℕ → List ℕ
 listed d array = take d.examined array
 
+module _ (s : Sheet) (index : List ℕ) (x y : ℕ) where
+  -- a state that the loop reaches, with its array: the array has room, and lists as many edges as are counted; the rest of the descent is
+  -- that from this state
+  pub record Reached (d : Descent) (array : List ℕ) : Type 0 where
+    pub room : bits (zone_count s - 1) ≤ length array
+    pub counted : length (listed d array) ≡ d.examined
+    pub rest : Rest s index x y (state_of d (listed d array))
+
+  pub start_reached : (array : List ℕ) → 1 ≤ zone_count s → bits (zone_count s - 1) ≤ length array
+      → Reached (record { i = 0; j = zone_count s - 1; k = top_bit (zone_count s - 1); examined = 0; probes = 0 }) array
+  start_reached array some room = record { room = room; counted = refl; rest = start_rest s index x y some }
+
+  -- what a step requires
+  pub step_allowed : (d : Descent) (array : List ℕ) → Reached d array → zone_count s ≤ max_zones → edge_count s ≤ max_edges
+      → (d.j ≤ max_zones) × ((d.examined < max_zones) × (d.probes ≤ 2147483648))
+  step_allowed d array r n m =
+      (omega (arith, r.rest.sound.inside), (omega (arith, r.counted, long), omega (arith, le_trans r.rest.sound.probed (mul-le-mul long wide))))
+    where
+      long : length (listed d array) ≤ max_examined
+      long = le_trans r.rest.sound.counted (few_edges (zone_count s) n)
+
+      wide : bits (edge_count s) ≤ 32
+      wide = bits_le 32 (edge_count s) (omega arith)
+
 module _ (q : Query) where
   -- the sheet that is searched, the words of its index and the point
   abbrev s : Sheet
@@ -52,12 +76,9 @@ module _ (q : Query) where
   abbrev y : ℕ
   y = q.y
 
-  -- a state that the loop reaches, with its array: the array has room, and lists as many edges as are counted; the rest of the descent is
-  -- that from this state
-  pub record Reached (d : Descent) (array : List ℕ) : Type 0 where
-    pub room : bits (zone_count s - 1) ≤ length array
-    pub counted : length (listed d array) ≡ d.examined
-    pub rest : Rest s index x y (state_of d (listed d array))
+  -- a state that the loop reaches in this search
+  abbrev pub ReachedIn : Descent → List ℕ → Type 0
+  ReachedIn d array = Reached s index x y d array
 
   -- what the loop finds and lists is what the whole descent does
   abbrev pub Ended : Search → List ℕ → Type 0
@@ -65,7 +86,7 @@ module _ (q : Query) where
 
   -- a state reached after d, with fewer turns left
   abbrev Onward : Descent → Descent → List ℕ → Type 0
-  Onward d next array = (turns_left (state_of next []) < turns_left (state_of d [])) × Reached next array
+  Onward d next array = (turns_left (state_of next []) < turns_left (state_of d [])) × ReachedIn next array
 
   -- where a step from d leads: onward or to an end, with the edge that it examines written where there is room
   abbrev pub Leads : Descent → List ℕ → Option Step → Type 0
@@ -76,24 +97,9 @@ module _ (q : Query) where
       × Ended (Ok (record { answer = on_edge s x y e; examined = last.examined; probes = last.probes })) (set array d.examined e)
   Leads d array None = Ended (refused 22 0) array
 
-  pub start_reached : (array : List ℕ) → 1 ≤ q.zones → bits (zone_count s - 1) ≤ length array
-      → Reached (record { i = 0; j = zone_count s - 1; k = top_bit (zone_count s - 1); examined = 0; probes = 0 }) array
-  start_reached array some room = record { room = room; counted = refl; rest = start_rest s index x y some }
-
-  module _ (d : Descent) (array : List ℕ) (r : Reached d array) where
+  module _ (d : Descent) (array : List ℕ) (r : ReachedIn d array) where
     abbrev from : defined.Descent
     from = state_of d (listed d array)
-
-    -- what a step requires
-    pub step_allowed : q.zones ≤ max_zones → length q.tables.edges.now / 4 ≤ max_edges → (d.j ≤ max_zones) × ((d.examined < max_zones) × (d.probes ≤ 2147483648))
-    step_allowed zones edges =
-        (omega (arith, r.rest.sound.inside, zones), (omega (arith, r.counted, long), omega (arith, le_trans r.rest.sound.probed (mul-le-mul long wide))))
-      where
-        long : length (listed d array) ≤ max_examined
-        long = le_trans r.rest.sound.counted (few_edges q.zones zones)
-
-        wide : bits (edge_count s) ≤ 32
-        wide = bits_le 32 (edge_count s) (omega (arith, edges))
 
     -- a turn that goes onward reaches the next state
     goes_on : (next : Descent) (more : List ℕ) → bits (zone_count s - 1) ≤ length more → length (listed next more) ≡ next.examined

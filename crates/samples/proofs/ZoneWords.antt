@@ -6,20 +6,37 @@ use native.Mathlib.Numerals.{add-one}
 use native.Mathlib.Omega.{arith}
 use borrow.Author.Tests.{lt-ltb, le-ltb}
 use lib.Ieee.{Float}
-use lib.ListN.{length, length-append}
+use lib.Dec.{eqb}
+use lib.ListN.{length, length-append, get_or}
 use Rattle.subdivision.specs.Results.{Reply, refused}
-use Rattle.subdivision.specs.Lists.{put, over}
+use Rattle.subdivision.specs.Lists.{tab, put, over}
 use Rattle.ledger.specs.declared.Tally.{Tally}
 use Rattle.ledger.specs.declared.Judgement.{Judgement}
 use Rattle.ledger.specs.Results.{listed}
 use Rattle.ledger.specs.Readings.{permit_of}
-use Rattle.ledger.specs.Tallies.{judge, write_mean}
-use Rattle.ledger.specs.Months.{Samples, Lent, sample_count, those, tally_of, result_words, means_left}
+use Rattle.ledger.specs.Tallies.{none_entered, entering, judge, write_mean}
+use Rattle.ledger.specs.Months.{Samples, Lent, sample_count, reading_at, those, tally_of, result_words, means_left}
 use Rattle.ledger.specs.Promises.{left_of}
+use Rattle.theory.proofs.Lists.{length_tab, get_d_tab}
 use Rattle.theory.proofs.Written.{put_more}
+use Rattle.accounting.proofs.Those.{those_same}
 use Rattle.samples.specs.declared.Spot.{Spot}
-use Rattle.samples.specs.Spots.{lies_at}
-use Rattle.samples.specs.Zones.{zone_words, tally_by, judgement_by, words_by, means_by, coarsest, left_by}
+use Rattle.samples.specs.Spots.{lies_at, zone_number}
+use Rattle.samples.proofs.Spots.{number_is}
+use Rattle.samples.specs.Zones.{zone_words, tally_over, tally_by, judgement_by, words_by, means_by, coarsest, left_by}
+
+-- what is entered for a zone by the numbers of the samples' zones is what is entered for it by their spots
+pub by_numbers : (t : Samples) (places : List Spot) (numbers : List ℕ) (z : ℕ) → z < 4294967295
+    → numbers ≡ tab (λ k. zone_number (get_or places k Spot.Untaken)) (length places)
+    → tally_over t numbers z (length numbers) ≡ tally_by t places z (length places)
+by_numbers t places numbers z few same =
+    rw same (ap (tally_over t (tab number (length places)) z) (length_tab number (length places)) ∙ ap (entering (reading_at t) none_entered) (those_same _ _ (length places) alike))
+  where
+    number : ℕ → ℕ
+    number k = zone_number (get_or places k Spot.Untaken)
+
+    alike : (k : ℕ) → k < length places → eqb (get_or (tab number (length places)) k 0) z ≡ lies_at places (Spot.Zone z) k
+    alike k h = ap (λ n. eqb n z) (get_d_tab number (length places) k 0 h) ∙ number_is (get_or places k Spot.Untaken) z few
 
 module _ (t : Samples) (places : List Spot) (permits : List Float) where
   -- three words a zone

@@ -38,6 +38,11 @@ same_spot Spot.OffSheet Spot.OffSheet = true
 same_spot (Spot.Zone y) (Spot.Zone z) = eqb y z
 same_spot s t = false
 
+-- the number of a spot's zone, and one that no zone has where it is none
+abbrev pub zone_number : Spot → ℕ
+zone_number (Spot.Zone z) = z
+zone_number s = 4294967295
+
 -- a reading is below detection, with its limit above the floor of the zone of this spot
 abbrev pub coarse : List Float → ℕ → Reading → Spot → Bool
 coarse permits n (Reading.BelowDetection limit) (Spot.Zone z) = elim (ltb z n) [ true ↦ lt (permit_of permits z).floor limit | false ↦ false ]

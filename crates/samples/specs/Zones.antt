@@ -1,5 +1,5 @@
 -- What is entered for a zone by where the samples lie, and what a month leaves of the zones by that.
-use Rattle.std.specs.Prelude.{true, false, List, [], ◌∷◌, ◌++◌, ℕ, zero, suc, ltb, Float, length, get_or}
+use Rattle.std.specs.Prelude.{true, false, List, [], ◌∷◌, ◌++◌, ℕ, zero, suc, eqb, ltb, Float, length, get_or}
 use Rattle.subdivision.specs.Lists.{put}
 use Rattle.subdivision.specs.Lowest.{lowest}
 use Rattle.subdivision.specs.Results.{refused}
@@ -16,6 +16,10 @@ use Rattle.samples.specs.Spots.{coarse, lies_at}
 -- the three words of a zone
 abbrev pub zone_words : Tally → Judgement → List ℕ
 zone_words t j = t.count ∷ t.below ∷ judgement_word j ∷ []
+
+-- what is entered for zone z, of the first so many samples, where these are the numbers of their zones
+abbrev pub tally_over : Samples → List ℕ → ℕ → ℕ → Tally
+tally_over t numbers z k = entering (reading_at t) none_entered (those (λ i. eqb (get_or numbers i 0) z) k)
 
 module _ (t : Samples) (places : List Spot) where
   -- what is entered for zone z, of the first so many samples

@@ -46,18 +46,14 @@ impl<'a> Samples<'a> {
         if !has_room(samples, permits, zones, boundary, off, results, means) {
             return None;
         }
-        let allowed = Permits {
-            words: permits,
-            zones,
-        };
         Some((
             Samples::new(samples.points, samples.kinds, samples.values),
-            allowed,
+            Permits::new(permits, zones),
         ))
     }
 
-    // The samples of three lists.
-    fn new(points: &'a [i32], kinds: &'a [u32], values: &'a [f64]) -> Self
+    // The samples of three lists, as many of them as have a value: no room is asked for.
+    pub fn new(points: &'a [i32], kinds: &'a [u32], values: &'a [f64]) -> Self
         requires { length values.now ≡ length kinds.now }
         ensures { samples_in result ≡ samples_of points.now kinds.now values.now }
     {
@@ -96,6 +92,15 @@ impl<'a> Samples<'a> {
 impl<'a> Permits<'a> {
     ghost use Rattle.ledger.specs.Readings.{permit_of};
 
+    // The permits of so many zones, each a limit and a floor.
+    pub fn new(words: &'a [f64], zones: u32) -> Self
+        requires { 2 * zones ≤ length words.now }
+        ensures words { result.words.now ≡ words.now }
+        ensures zones { result.zones ≡ zones }
+    {
+        Permits { words, zones }
+    }
+
     // The number of zones.
     pub fn zones(self) -> u32
         ensures { result ≡ self.entry.zones }
@@ -113,7 +118,7 @@ impl<'a> Permits<'a> {
 }
 
 // What 43 asks.
-fn has_room(
+pub fn has_room(
     samples: LentSamples,
     permits: &[f64],
     zones: u32,

@@ -1,13 +1,15 @@
-ghost use Rattle.std.specs.Prelude.{◌≡◌, ◌+◌, ◌*◌, ◌<◌, ◌≤◌, length};
-ghost use Rattle.subdivision.specs.Lists.{put, over};
+ghost use Rattle.std.specs.Prelude.{◌≡◌, ◌+◌, ◌*◌, ◌<◌, ◌≤◌, length, get_or};
+ghost use Rattle.subdivision.specs.Lists.{tab, put, over};
 ghost use Rattle.ledger.specs.Months.{max_samples};
 ghost use Rattle.ledger.specs.Tallies.{judgement_word, write_mean};
+ghost use Rattle.samples.specs.declared.Spot.{Spot};
 ghost use Rattle.samples.specs.Room.{samples_in};
-ghost use Rattle.samples.specs.Zones.{zone_words, tally_by, words_by, means_by};
+ghost use Rattle.samples.specs.Spots.{zone_number};
+ghost use Rattle.samples.specs.Zones.{zone_words, tally_over, words_by, means_by};
 
 use crate::Spot;
 use crate::room::{Permits, Samples};
-use ledger::{Judgement, Tally};
+use ledger::{Judgement, MAX_SAMPLES, Tally};
 use tallies::{enter, judge};
 
 // Judges each zone by the samples that lie in it, and writes its three words and its mean, where there is one.
@@ -23,26 +25,50 @@ pub fn judge_zones(
     ensures results_after { results.new ≡ put (words_by (samples_in samples.entry) places.now permits.entry.words.now permits.entry.zones) results.old }
     ensures means_after { means.new ≡ means_by (samples_in samples.entry) places.now permits.entry.words.now means.old permits.entry.zones }
 {
+    // A fixed buffer: no heap, memory of a known size. Each zone looks through all samples, and a number is looked at faster than a spot.
+    let mut numbers = [0u32; MAX_SAMPLES];
+    let numbers = &mut numbers[..places.len()];
+    number_zones(places, numbers);
     for z in 0..permits.zones() {
-        let tally = tally_zone(samples, places, z);
+        let tally = tally_zone(samples, numbers, z);
         let judgement = judge(permits.of(z), tally);
         write_words(tally, judgement, results, z as usize);
         write_mean(judgement, means, z as usize);
     }
 }
 
-// What is entered for zone z: the readings of the samples that lie in it, in order.
-fn tally_zone(samples: Samples, places: &[Spot], z: u32) -> Tally
-    requires { (length samples.kinds.now ≤ max_samples) × (length places.now ≡ length samples.kinds.now) }
-    ensures { result ≡ tally_by (samples_in samples.entry) places.now z (length places.now) }
+// Writes the number of each sample's zone to its place of `numbers`, and a number that no zone has where it lies in none.
+fn number_zones(places: &[Spot], numbers: &mut [u32])
+    requires { length numbers.old ≡ length places.now }
+    ensures { numbers.new ≡ tab (λ k. zone_number (get_or places.now k Spot.Untaken)) (length places.now) }
+{
+    for (k, number) in numbers.iter_mut().enumerate() {
+        *number = zone_number(places[k]);
+    }
+}
+
+// The number of a spot's zone, and a number that no zone has where it is none.
+fn zone_number(spot: Spot) -> u32
+    ensures { result ≡ zone_number spot }
+{
+    match spot {
+        Spot::Zone(z) => z,
+        Spot::Untaken | Spot::Boundary | Spot::OffSheet => 4294967295,
+    }
+}
+
+// What is entered for zone z: the readings of the samples that have its number, in order.
+fn tally_zone(samples: Samples, numbers: &[u32], z: u32) -> Tally
+    requires { (length samples.kinds.now ≤ max_samples) × (length numbers.now ≡ length samples.kinds.now) }
+    ensures { result ≡ tally_over (samples_in samples.entry) numbers.now z (length numbers.now) }
 {
     let mut tally = Tally {
         count: 0,
         below: 0,
         sum: 0.0,
     };
-    for k in 0..places.len() {
-        if places[k] == Spot::Zone(z) {
+    for k in 0..numbers.len() {
+        if numbers[k] == z {
             tally = enter(tally, samples.reading(k));
         }
     }

@@ -5,7 +5,6 @@ ghost use Rattle.std.specs.Prelude.{◌≡◌, pos, ◌<◌, ◌/◌, length, ge
 ghost use Rattle.subdivision.specs.Sheet.{shifted, vertex_x, vertex_y, edge_west, edge_east, edge_above, edge_below, segment_of};
 ghost use Rattle.tables.specs.Known.{EndsKnown};
 
-use numbers::words::entry_or;
 use subdivision::Segment;
 
 // The two tables of a sheet as they are lent.
@@ -87,7 +86,7 @@ pub fn shifted(v: i32) -> u32
 fn coordinate(vertices: &[i32], at: usize) -> u32
     ensures { result ≡ shifted (get_or vertices.now at (pos 0)) }
 {
-    shifted(entry_or(vertices, at, 0))
+    shifted(vertices.get(at).copied().unwrap_or(0))
 }
 
 // The coordinate at a place of the vertices that is known to be there, shifted.
@@ -102,7 +101,7 @@ fn known_coordinate(vertices: &[i32], at: usize) -> u32
 pub fn word(table: &[u32], at: usize) -> u32
     ensures { result ≡ get_or table.now at 0 }
 {
-    entry_or(table, at, 0)
+    table.get(at).copied().unwrap_or(0)
 }
 
 // The x of vertex v, shifted.

@@ -167,7 +167,8 @@ module _ (test : ℕ → Bool) (item : ℕ → ℕ) (most : ℕ) where
       go true h = omega arith
       go false h = h
 
-  least_le_item : (c i : ℕ) → i < c → test i ≡ true → least_of test item c most ≤ item i
+  -- the least is at most each item that passes
+  pub least_le_item : (c i : ℕ) → i < c → test i ≡ true → least_of test item c most ≤ item i
   least_le_item zero i h e = absurd (not-suc-le-zero h)
   least_le_item (suc c) i h e = go (test c) refl (least_le_item c i) (below_suc h)
     where
@@ -178,7 +179,8 @@ module _ (test : ℕ → Bool) (item : ℕ → ℕ) (most : ℕ) where
       go true t rest (inr l) = omega (arith, rest l e)
       go false t rest (inr l) = rest l e
 
-  least_is_one : (c : ℕ) → (least_of test item c most ≡ most) ⊎ ((i : ℕ) × (i < c) × (test i ≡ true) × (least_of test item c most ≡ item i))
+  -- the least is one of the items that pass, or the one more number
+  pub least_is_one : (c : ℕ) → (least_of test item c most ≡ most) ⊎ ((i : ℕ) × (i < c) × (test i ≡ true) × (least_of test item c most ≡ item i))
   least_is_one zero = inl refl
   least_is_one (suc c) = go (test c) refl (least_is_one c)
     where

@@ -1,6 +1,6 @@
 -- Vertices at one point stand side by side in the order of points, so that the lowest one that is the same point as an earlier one is found along it.
-use mathlib.Core.Path.{◌≡◌, refl, sym, ap, ◌∙◌, subst}
-use mathlib.Core.Bool.{true, false, not}
+use mathlib.Core.Path.{◌≡◌, refl, sym, ap, ◌∙◌}
+use mathlib.Core.Bool.{Bool, true, not}
 use mathlib.Core.List.{List, []}
 use mathlib.Core.Logic.{◌⊎◌, inl, inr, ⊎_elim}
 use Prim.Native.Nat.{ℕ, zero, suc, ◌+◌, ◌-◌, ◌<◌, ◌≤◌, ◌^◌, min}
@@ -8,12 +8,13 @@ use native.Mathlib.Nat.{le_refl, eq-or-lt_of_le, not-suc-le-zero}
 use native.Mathlib.Decide.{dec_le}
 use native.Mathlib.Numerals.{add-one}
 use native.Mathlib.Omega.{arith}
+use lib.Dec.{eqb}
 use lib.IntN.{ℤ, pos}
 use lib.ListN.{length, get_or}
-use borrow.Author.Tests.{not-true}
+use borrow.Author.Tests.{eqb-true, eq-eqb, not-true}
 use Rattle.subdivision.specs.Formula.{Formula, both, is_equal, not_so, holds, Means}
 use Rattle.std.specs.Prelude.{Option, Some, None, MatchOption}
-use Rattle.subdivision.specs.Lowest.{first}
+use Rattle.subdivision.specs.Lowest.{lowest, found, first}
 use Rattle.subdivision.specs.Order.{Before, SortedBelow}
 use Rattle.subdivision.specs.PointOrder.{PointBefore, ByPoint}
 use Rattle.subdivision.specs.Sheet.{Sheet, sheet_of, vertex_count, x_of, y_of, vertex_x, vertex_y}
@@ -21,7 +22,7 @@ use Rattle.subdivision.specs.Rules.{vertex_new}
 use Rattle.subdivision.specs.Accepted.{Rule1}
 use Rattle.theory.proofs.Decide.{below_suc, true_or_false, means, denies, fails, broken_item}
 use Rattle.theory.proofs.Groups.{pair_key}
-use Rattle.theory.proofs.Lowest.{first_at, first_nowhere}
+use Rattle.theory.proofs.Lowest.{least_of, least_is_lowest, least_le_item, least_is_one, found_below, found_past}
 use Rattle.theory.proofs.Order.{before_irrefl, before_trans}
 
 -- vertices u and v are the same point
@@ -32,6 +33,18 @@ same_point vertices u v =
 -- the key of vertex v: its x, and then its y
 abbrev pub point_key : List ℤ → ℕ → ℕ
 point_key vertices v = pair_key (vertex_x vertices v) (vertex_y vertices v)
+
+-- u and v are the same point where they have one key
+abbrev pub OnePoint : List ℤ → ℕ → ℕ → Type 0
+OnePoint vertices u v = point_key vertices u ≡ point_key vertices v → Means (same_point vertices u v)
+
+-- the number after place i of an order
+abbrev pub after : List ℕ → ℕ → ℕ
+after l i = get_or l (i + 1) 0
+
+-- the vertices at place i of an order and after it have one key
+abbrev pub alike : List ℤ → List ℕ → ℕ → Bool
+alike vertices l i = eqb (point_key vertices (get_or l i 0)) (point_key vertices (after l i))
 
 -- equal keys are keys of equal pairs
 pub pair_key_same : (a b c d : ℕ) → b < 2 ^ 32 → d < 2 ^ 32 → pair_key a b ≡ pair_key c d → (a ≡ c) × (b ≡ d)
@@ -138,55 +151,75 @@ module _ (vertices : List ℤ) (l : List ℕ) (c : ℕ) where
       place (yes h) = (at.0, omega (arith, at.1), at.2, omega (arith, at.3))
       place (no h) = (c, omega arith, one, omega arith)
 
-module _ (vertices : List ℤ) (n : ℕ) (l : List ℕ) (s : SortedBelow (point_key vertices) n l) where
-  abbrev key : ℕ → ℕ
-  key = point_key vertices
-
-  abbrev new : ℕ → Formula
-  new v = vertex_new (sheet_of (pos 0) (pos 0) vertices [] 0) v
-
-  -- a vertex that is the same point as an earlier one stands behind one with its key
-  repeat_found : (v : ℕ) → v < n → not (holds (new v)) ≡ true
-      → (i : ℕ) × (i < length l - 1) × Alike vertices l i × (get_or l (i + 1) 0 ≡ v)
-  repeat_found v h e = earlier (broken_item v (λ u. not_so (same_point vertices u v)) (not-true (holds (new v)) e))
+module _ (vertices : List ℤ) (n : ℕ) (l : List ℕ) where
+  -- the least of the first c neighbours with one key, where there is one, is the least of the items that are alike
+  least_is_found : (c : ℕ) → ((i : ℕ) → i < c → after l i < n) → (r : Option ℕ) → IsLeastOf vertices l c r
+      → r ≡ found n (least_of (alike vertices l) (after l) c n)
+  least_is_found c below None none = go (least_is_one (alike vertices l) (after l) n c)
     where
-      beside : (i : ℕ) × (i < n - 1) × (key (get_or l i 0) ≡ key v) × (get_or l (i + 1) 0 ≡ v)
-          → (i : ℕ) × (i < length l - 1) × Alike vertices l i × (get_or l (i + 1) 0 ≡ v)
-      beside (i, p, q, r) = (i, omega (arith, s.long), q ∙ ap key (sym r), r)
+      go : {m : ℕ} → (m ≡ n) ⊎ ((i : ℕ) × (i < c) × (alike vertices l i ≡ true) × (m ≡ after l i)) → None ≡ found n m
+      go (inl e) = sym (found_past n _ (omega (arith, e)))
+      go (inr f) = absurd (none f.0 f.1 (eqb-true (point_key vertices (get_or l f.0 0)) (point_key vertices (after l f.0)) f.2))
+  least_is_found c below (Some v) (at, least) = sym (ap (found n) same ∙ found_below n v (omega (arith, below at.0 at.1, at.3)))
+    where
+      lower : ℕ
+      lower = least_of (alike vertices l) (after l) c n
 
-      earlier : (u : ℕ) × (u < v) × (Means (not_so (same_point vertices u v)) → ⊥)
-          → (i : ℕ) × (i < length l - 1) × Alike vertices l i × (get_or l (i + 1) 0 ≡ v)
-      earlier (u, k, d) = beside (repeat_beside key n l s u v k h (rw (point.0, point.1)))
+      no_higher : lower ≤ v
+      no_higher = omega (arith, at.3, least_le_item (alike vertices l) (after l) n c at.0 at.1 (eq-eqb (point_key vertices (get_or l at.0 0)) (point_key vertices (after l at.0)) at.2))
+
+      no_lower : (lower ≡ n) ⊎ ((i : ℕ) × (i < c) × (alike vertices l i ≡ true) × (lower ≡ after l i)) → v ≤ lower
+      no_lower (inl e) = omega (arith, e, below at.0 at.1, at.3)
+      no_lower (inr f) = omega (arith, f.3, least f.0 f.1 (eqb-true (point_key vertices (get_or l f.0 0)) (point_key vertices (after l f.0)) f.2))
+
+      same : lower ≡ v
+      same = omega (arith, no_higher, no_lower (least_is_one (alike vertices l) (after l) n c))
+
+  -- where each y fits the key's lower half, neighbours with one key are one point
+  pub fits_one_point : SortedBelow (point_key vertices) n l → ((v : ℕ) → v < n → vertex_y vertices v < 2 ^ 32)
+      → (i : ℕ) → i < length l - 1 → OnePoint vertices (get_or l i 0) (after l i)
+  fits_one_point s fits i h =
+      pair_key_same _ _ _ _ (fits _ (s.numbers i (omega (arith, s.long)))) (fits _ (s.numbers (i + 1) (omega (arith, s.long))))
+
+  -- where equal keys are keys of one point, the least vertex with the key of the one before it in the order is the lowest that is the same point as an earlier one
+  pub least_repeat : SortedBelow (point_key vertices) n l → ((i : ℕ) → i < length l - 1 → OnePoint vertices (get_or l i 0) (after l i))
+      → least_of (alike vertices l) (after l) (length l - 1) n ≡ lowest (λ v. not (holds (vertex_new (sheet_of (pos 0) (pos 0) vertices [] 0) v))) n
+  least_repeat s one = least_is_lowest (alike vertices l) (after l) (λ v. not (holds (new v))) (length l - 1) n sound whole
+    where
+      key : ℕ → ℕ
+      key = point_key vertices
+
+      new : ℕ → Formula
+      new v = vertex_new (sheet_of (pos 0) (pos 0) vertices [] 0) v
+
+      sound : (i : ℕ) → i < length l - 1 → alike vertices l i ≡ true → (after l i < n) × (not (holds (new (after l i))) ≡ true)
+      sound i h e =
+          let same = eqb-true (key (get_or l i 0)) (key (after l i)) e in
+          (s.numbers (i + 1) (omega (arith, s.long)), ap not (fails (new (after l i)) (λ m. m (get_or l i 0) (neighbours_rise key n l s i (omega (arith, s.long)) same) (one i h same))))
+
+      beside : (v : ℕ) → (i : ℕ) × (i < n - 1) × (key (get_or l i 0) ≡ key v) × (after l i ≡ v)
+          → (i : ℕ) × (i < length l - 1) × (alike vertices l i ≡ true) × (after l i ≡ v)
+      beside v (i, p, q, r) = (i, omega (arith, s.long), eq-eqb (key (get_or l i 0)) (key (after l i)) (q ∙ ap key (sym r)), r)
+
+      repeated : (v : ℕ) → v < n → (u : ℕ) × (u < v) × (Means (not_so (same_point vertices u v)) → ⊥)
+          → (i : ℕ) × (i < length l - 1) × (alike vertices l i ≡ true) × (after l i ≡ v)
+      repeated v h (u, k, d) = beside v (repeat_beside key n l s u v k h same)
         where
           point : Means (same_point vertices u v)
           point = ⊎_elim (means (same_point vertices u v)) (λ e. absurd (d (denies (same_point vertices u v) e))) (true_or_false (holds (same_point vertices u v)))
 
-  module _ (fits : (v : ℕ) → v < n → vertex_y vertices v < 2 ^ 32) where
-    -- where each y fits the key's lower half, the later of two neighbours with one key is the same point as an earlier one
-    repeat_breaks : (i : ℕ) → i < length l - 1 → Alike vertices l i
-        → (get_or l (i + 1) 0 < n) × (not (holds (new (get_or l (i + 1) 0))) ≡ true)
-    repeat_breaks i h e =
-        let within : i + 1 < n = omega (arith, s.long) in
-        (s.numbers (i + 1) within, ap not (fails (new (get_or l (i + 1) 0)) (λ m. m (get_or l i 0) (neighbours_rise key n l s i within e) (pair_key_same _ _ _ _ (fits _ (s.numbers i (omega (arith, s.long)))) (fits _ (s.numbers (i + 1) within)) e))))
+          same : key u ≡ key v
+          same = rw (point.0, point.1)
 
-    -- and the least of those is the first that is the same point as an earlier one
-    pub least_repeat : (r : Option ℕ) → IsLeastRepeat vertices l r → r ≡ first (λ v. not (holds (new v))) n
-    least_repeat None none = first_nowhere _ n (λ v h. not_found v h (true_or_false (not (holds (new v)))))
-      where
-        not_found : (v : ℕ) → v < n → (not (holds (new v)) ≡ true) ⊎ (not (holds (new v)) ≡ false) → not (holds (new v)) ≡ false
-        not_found v h (inl e) = let f = repeat_found v h e in absurd (none f.0 f.1 f.2)
-        not_found v h (inr e) = e
-    least_repeat (Some v) (at, least) =
-        first_at _ n v breaks.0 breaks.1 (λ k h. not_before k h (true_or_false (not (holds (new k)))))
-      where
-        breaks : (v < n) × (not (holds (new v)) ≡ true)
-        breaks = subst (λ (v : ℕ). (v < n) × (not (holds (new v)) ≡ true)) at.3 (repeat_breaks at.0 at.1 at.2)
+      whole : (v : ℕ) → v < n → not (holds (new v)) ≡ true
+          → (i : ℕ) × (i < length l - 1) × (alike vertices l i ≡ true) × (after l i ≡ v)
+      whole v h e = repeated v h (broken_item v (λ u. not_so (same_point vertices u v)) (not-true (holds (new v)) e))
 
-        not_before : (k : ℕ) → k < v → (not (holds (new k)) ≡ true) ⊎ (not (holds (new k)) ≡ false) → not (holds (new k)) ≡ false
-        not_before k h (inl e) =
-            let f = repeat_found k (omega (arith, breaks.0)) e in
-            absurd (omega (arith, f.3, least f.0 f.1 f.2))
-        not_before k h (inr e) = e
+  -- and where neighbours with one key are one point, the least of the later ones of them is the first that is the same point as an earlier one
+  pub first_least_repeat : SortedBelow (point_key vertices) n l → ((i : ℕ) → i < length l - 1 → OnePoint vertices (get_or l i 0) (after l i))
+      → (r : Option ℕ) → IsLeastRepeat vertices l r → r ≡ first (λ v. not (holds (vertex_new (sheet_of (pos 0) (pos 0) vertices [] 0) v))) n
+  first_least_repeat s one r is =
+      least_is_found (length l - 1) (λ i h. s.numbers (i + 1) (omega (arith, s.long))) r is ∙ ap (found n) (least_repeat s one)
 
 -- rule 1: two vertices that are the same point are one
 pub same_point_lem : (s : Sheet) → Rule1 s → (v u : ℕ) → v < vertex_count s → u < vertex_count s → x_of s v ≡ x_of s u → y_of s v ≡ y_of s u → v ≡ u

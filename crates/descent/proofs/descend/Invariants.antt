@@ -2,11 +2,11 @@
 use Rattle.std.proofs.Common.{[]}
 use Rattle.theory.proofs.Descents.{turns_left}
 use Rattle.descent.specs.Steps.{state_of}
-use Rattle.descent.proofs.Descending.{Reached}
+use Rattle.descent.proofs.Descending.{ReachedIn}
 use Rattle.descent.proofs.descend.Given as goal
 
 abbrev pub invariant-loop-d : goal.invariant-loop-d
-invariant-loop-d l = Reached l.query l.d l.trail
+invariant-loop-d l = ReachedIn l.query l.d l.trail
 
 abbrev pub decreases-loop-d : goal.decreases-loop-d
 decreases-loop-d l = turns_left (state_of l.d [])
