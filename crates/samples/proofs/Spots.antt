@@ -1,10 +1,9 @@
 -- The derived equality of spots is the test of the definitions, and so is that of the numbers of their zones.
-use Rattle.std.proofs.Common.{◌≡◌, ◌<◌, refl, sym, ap, ◌∙◌, arith, ℕ, List, length, get_or}
+use Rattle.std.proofs.Common.{◌≡◌, ◌<◌, refl, arith, ℕ, List, get_or}
 use Rattle.samples.specs.declared.Spot.{Spot}
 use Rattle.samples.specs.contracts.SpotPartialEq.TheImpl.{ghosts}
 use Rattle.std.specs.Prelude.{eqb}
 use Rattle.std.proofs.lemmas.Bool.{ne_eqb}
-use Rattle.subdivision.specs.Lists.{tab}
 use Rattle.samples.specs.Spots.{same_spot, lies_at, zone_number}
 
 eq_is : (s t : Spot) → ghosts.eq s t ≡ same_spot s t
