@@ -36,7 +36,12 @@ pub fn lowest_on_circle(edges: &[u32], zones: u32) -> Option<u32>
         begin,
     };
     let steps = Steps { groups };
-    (0..zones).find(|z| on_circle(steps, *z))
+    for z in 0..zones {
+        if on_circle(steps, z) {
+            return Some(z);
+        }
+    }
+    None
 }
 
 // Whether a zone is on a circle: the zones that a step leads to are queued once each, and their own steps
