@@ -37,7 +37,7 @@ module _ (marks queue : List ℕ) (count zone : ℕ) (k : Looking marks queue co
   abbrev so_far : List ℕ
   so_far = take count queue
 
-  mark_is : get_or marks zone 0 ≡ mark_of so_far zone
+  pub mark_is : get_or marks zone 0 ≡ mark_of so_far zone
   mark_is = ap (λ (l : List ℕ). get_or l zone 0) k.marked ∙ get_d_tab (mark_of so_far) (length marks) zone 0 there
 
   -- the mark tells whether the zone is queued

@@ -36,7 +36,7 @@ placing_end line rest done before place whole none e =
     rw (e, whole, empty)
 
 -- the table keeps its length
-length_placing : (at : ℕ) (line place : List ℕ) → length (placing at line place) ≡ length place
+pub length_placing : (at : ℕ) (line place : List ℕ) → length (placing at line place) ≡ length place
 length_placing at [] place = refl
 length_placing at (z ∷ line) place = length-set (placing (suc at) line place) z at ∙ length_placing (suc at) line place
 

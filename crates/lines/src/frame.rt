@@ -1,6 +1,7 @@
 ghost use Rattle.std.specs.Prelude.{◌≡◌, ◌≤◌, length};
 ghost use Rattle.subdivision.specs.Lowest.{found};
 ghost use Rattle.frames.specs.Lines.{frame_length, line_end, line_at};
+ghost use Rattle.lines.specs.Pieces.{line_to};
 
 use frames::Line;
 use hexadecimal::digits::{hexadecimal, number};
@@ -32,9 +33,17 @@ pub(crate) fn line_at(page: &[u8], at: usize) -> Line
     if page.len() <= at {
         return Line::End;
     }
-    let Some(end) = line_end(page, at) else {
-        return Line::Unfinished;
-    };
+    match line_end(page, at) {
+        Some(end) => line_to(page, at, end),
+        None => Line::Unfinished,
+    }
+}
+
+// The line of the bytes from a place to another.
+fn line_to(page: &[u8], at: usize, end: usize) -> Line
+    requires { (at ≤ end) × (end ≤ length page.now) }
+    ensures { result ≡ line_to page.now at end }
+{
     if !hexadecimal(page, at, end) {
         return Line::Malformed;
     }

@@ -50,7 +50,7 @@ module _ (s : Sheet) where
       × GivenAsBefore (earlier_table_refusals s) (λ number item. v ≡ refused number item)))
 
   -- a verdict on the tables, as the rules' statements
-  verdict_says : (v : Verdict) → v ≡ judged (table_refusals s) → Says v
+  pub verdict_says : (v : Verdict) → v ≡ judged (table_refusals s) → Says v
   verdict_says v e =
       subst Says (sym e)
       (accepted_decides s, (table_refused_exactly s, (λ item g. table_circle s item ((table_refused_exactly s 13 item).0 g), given_as_before (table_refusals s) (earlier_table_refusals s) (λ number item. judged (table_refusals s) ≡ refused number item) (table_refused_exactly s) (table_as_before s))))

@@ -73,7 +73,10 @@ pub fn judge_zones(sheet: LentSheet, line: &mut [u32; MAX_ZONES]) -> Result<(), 
     // A fixed buffer: no heap, memory of a known size.
     let mut found = [0u32; MAX_ZONES];
     match line_through(edges, sheet.zones, &mut found, line) {
-        Some(_) => refuse(13, lowest_on_circle(edges, sheet.zones)),
+        Some(_) => {
+            let circle = lowest_on_circle(edges, sheet.zones);
+            refuse(13, circle)
+        }
         None => Ok(()),
     }
 }

@@ -16,8 +16,8 @@ returns-in_err-refuse-clause-verdict c =
     let s = lent c.args.sheet in
     scan_refuses 12 (zone_count s) (zone_named s) (circle_refusal s ∷ []) _ _ c.first_unnamed.ensures refl _ c.refuse.ensures _ c.in_err-refuse.was c.from_residual.result (search rules)
 
-pub lowest_on_circle-requires : goal.lowest_on_circle-requires
-lowest_on_circle-requires c =
+pub lowest_on_circle-circle-requires : goal.lowest_on_circle-circle-requires
+lowest_on_circle-circle-requires c =
     let s = lent c.args.sheet in
     let k = (passed_keeps (limit_refusals s) c.requires.limits).0 in
     let named = (passed_keeps (record_refusals s) c.requires.records).1.1.0 in
@@ -29,7 +29,7 @@ returns-in-Some-clause-verdict c =
     let named = (passed_keeps (record_refusals s) c.requires.records).1.1.0 in
     let passed = scan_passes 12 (zone_count s) (zone_named s) (circle_refusal s ∷ []) _ _ c.first_unnamed.ensures refl _ c.refuse.ensures _ c.in_ok-refuse.was in
     c.refuse-in-Some.ensures
-    ∙ circle_refused s (λ e h. (named e h).1) _ c.line_through.ensures.left _ c.in-Some.is _ c.lowest_on_circle.ensures
+    ∙ circle_refused s (λ e h. (named e h).1) _ c.line_through.ensures.left _ c.in-Some.is _ c.lowest_on_circle-circle.ensures
     ∙ circle_judged s (λ e h. (named e h).1) _ c.line_through.ensures.left _ c.in-Some.is
     ∙ sym passed
 
@@ -38,7 +38,7 @@ returns-in-Some-clause-written c =
     let s = lent c.args.sheet in
     let named = (passed_keeps (record_refusals s) c.requires.records).1.1.0 in
     line_unwritten s (λ e h. (named e h).1) _ _ c.args.line.now c.line_through.new.line c.in-Some.is c.line_through.ensures.written c.refuse-in-Some.result _
-    (c.refuse-in-Some.ensures ∙ circle_refused s (λ e h. (named e h).1) _ c.line_through.ensures.left _ c.in-Some.is _ c.lowest_on_circle.ensures)
+    (c.refuse-in-Some.ensures ∙ circle_refused s (λ e h. (named e h).1) _ c.line_through.ensures.left _ c.in-Some.is _ c.lowest_on_circle-circle.ensures)
 
 pub returns-in-None-clause-verdict : goal.returns-in-None-clause-verdict
 returns-in-None-clause-verdict c =
