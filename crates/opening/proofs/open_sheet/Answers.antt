@@ -62,14 +62,14 @@ need-requires c =
 pub returns-then-index-need : goal.returns-then-index-need
 returns-then-index-need c =
     let s = lent c.args.sheet in
-    let short : length c.args.index.now < index_need (zone_count s) (edge_count s) = rw (← c.edge_count.ensures, ← c.need.ensures) (search rules) in
+    let short : length c.args.index.now < index_need (zone_count s) (edge_count s) = omega (arith, c.edge_count.ensures, c.need.ensures, c.if-index-need.true) in
     let p = refusal_promised s c.args.index.now (record { number = 3; item = 0 }) (refused 3 0) (no_room s c.args.index.now (sym c.limits.ensures ∙ c.in_ok-limits.was) short) refl in
     search rules
 
 pub returns-in_err-rules : goal.returns-in_err-rules
 returns-in_err-rules c =
     let s = lent c.args.sheet in
-    let room : index_need (zone_count s) (edge_count s) ≤ length c.args.index.now = rw (← c.edge_count.ensures, ← c.need.ensures) (search rules) in
+    let room : index_need (zone_count s) (edge_count s) ≤ length c.args.index.now = omega (arith, c.edge_count.ensures, c.need.ensures, c.if-index-need.false) in
     let p = refusal_promised s c.args.index.now _ c.from_residual-in_err-rules.result (with_room s c.args.index.now (sym c.limits.ensures ∙ c.in_ok-limits.was) room ∙ sym c.rules.ensures.verdict ∙ c.in_err-rules.was) (search rules) in
     search rules
 
@@ -85,7 +85,7 @@ write_index-requires c =
     let s = lent c.args.sheet in
     let accepted = (accepted_decides s).0 (sym c.rules.ensures.verdict ∙ c.in_ok-rules.was) in
     let back = read_back s accepted c.rules.result c.rules.new.line c.in_ok-rules.was c.rules.ensures.written in
-    let room : index_need (zone_count s) (edge_count s) ≤ length c.args.index.now = rw (← c.edge_count.ensures, ← c.need.ensures) (search rules) in
+    let room : index_need (zone_count s) (edge_count s) ≤ length c.args.index.now = omega (arith, c.edge_count.ensures, c.need.ensures, c.if-index-need.false) in
     let all = subst (λ (l : List ℕ). Writable s l (length c.args.index.now)) (sym back) (writable s accepted (length c.args.index.now) room) in
     record { edges_len_bound = all.0; by_index = all.1.0; by_index_2 = all.1.1 }
 
@@ -95,7 +95,7 @@ returns c =
     let a = c.args in
     let accepted = (accepted_decides s).0 (sym c.rules.ensures.verdict ∙ c.in_ok-rules.was) in
     let back = read_back s accepted c.rules.result c.rules.new.line c.in_ok-rules.was c.rules.ensures.written in
-    let room : index_need (zone_count s) (edge_count s) ≤ length a.index.now = rw (← c.edge_count.ensures, ← c.need.ensures) (search rules) in
+    let room : index_need (zone_count s) (edge_count s) ≤ length a.index.now = omega (arith, c.edge_count.ensures, c.need.ensures, c.if-index-need.false) in
     let w =
     c.write_index.ensures ∙ (λ i. put (packed s.vertices s.edges (back i)) a.index.now)
     ∙ ap (λ (l : List ℕ). put l a.index.now) (accepted_index s accepted) in
