@@ -1,7 +1,7 @@
 ghost use Rattle.std.specs.Prelude.{◌≡◌, ◌≤◌, length};
 ghost use Rattle.subdivision.specs.Lowest.{found};
 ghost use Rattle.frames.specs.Lines.{frame_length, line_end, line_at};
-ghost use Rattle.lines.specs.Pieces.{line_to};
+ghost use Rattle.lines.specs.WholeLine.{whole_line};
 
 use frames::Line;
 use hexadecimal::digits::{hexadecimal, number};
@@ -34,15 +34,15 @@ pub(crate) fn line_at(page: &[u8], at: usize) -> Line
         return Line::End;
     }
     match line_end(page, at) {
-        Some(end) => line_to(page, at, end),
+        Some(end) => whole_line(page, at, end),
         None => Line::Unfinished,
     }
 }
 
-// The line of the bytes from a place to another.
-fn line_to(page: &[u8], at: usize, end: usize) -> Line
+// What the bytes of a whole line are, from its place to its end.
+fn whole_line(page: &[u8], at: usize, end: usize) -> Line
     requires { (at ≤ end) × (end ≤ length page.now) }
-    ensures { result ≡ line_to page.now at end }
+    ensures { result ≡ whole_line page.now at end }
 {
     if !hexadecimal(page, at, end) {
         return Line::Malformed;

@@ -8,20 +8,20 @@ use Rattle.subdivision.specs.Formula.{Means}
 use Rattle.frames.specs.declared.Line.TheVariants.{Frame, Malformed}
 use Rattle.frames.specs.Lines.{kind_at, is_hexadecimal, is_frame, frame_length}
 use Rattle.theory.proofs.Decide.{fails, held, means, denies}
-use Rattle.lines.specs.Pieces.{line_to}
-use Rattle.lines.proofs.frame.line_to.Goals as goal
-use Rattle.lines.proofs.frame.line_to.Goals.{else-kind-lt4-via-then-kind-lt4+else-end-at, else-kind-lt4-via-else-kind-lt4}
+use Rattle.lines.specs.WholeLine.{whole_line}
+use Rattle.lines.proofs.frame.whole_line.Goals as goal
+use Rattle.lines.proofs.frame.whole_line.Goals.{else-kind-lt4-via-then-kind-lt4+else-end-at, else-kind-lt4-via-else-kind-lt4}
 
 -- bytes that break what a frame keeps
-malformed : (page : List ℕ) (at end : ℕ) → (Means (is_frame page at end) → ⊥) → Malformed ≡ line_to page at end
-malformed page at end f = rw (fails (is_frame page at end) f, line_to)
+malformed : (page : List ℕ) (at end : ℕ) → (Means (is_frame page at end) → ⊥) → Malformed ≡ whole_line page at end
+malformed page at end f = rw (fails (is_frame page at end) f, whole_line)
 
 -- bytes that keep all of it
 frame : (page : List ℕ) (at end kind : ℕ) → kind ≡ kind_at page at → Means (is_hexadecimal page at end) → kind < 4 → end - at ≡ frame_length kind
-    → Frame kind (end + 1) ≡ line_to page at end
+    → Frame kind (end + 1) ≡ whole_line page at end
 frame page at end kind k hex known long =
     let made : Means (is_frame page at end) = (hex, (rw k at known, rw k at long)) in
-    rw (add-one end, k, held (is_frame page at end) made, line_to)
+    rw (add-one end, k, held (is_frame page at end) made, whole_line)
 
 pub returns-then-not-hexadecimal : goal.returns-then-not-hexadecimal
 returns-then-not-hexadecimal c =
